@@ -4,10 +4,12 @@ ghost use mathlib.Core.List.{[], _∷_, _++_};
 ghost use mathlib.Core.Bool.{cond};
 ghost use Prim.Native.Nat.{_<_, _≤_, _+_};
 ghost use lib.Dec.{ltb, leb};
-ghost use lib.ListN.{length, set, take, drop};
+ghost use lib.ListN.{length, set};
 ghost use Rattle.std.specs.Results.{isOk};
 ghost use Rattle.buffer.specs.Bytes.{bytesOf};
+
 mod store;
+
 pub use store::Buffer;
 use store::Store;
 
@@ -22,17 +24,6 @@ impl<const N: usize> Store<N> {
         ensures { λ _. ⌜ now (self .exit) .bytes ≡ set (now (self .entry) .bytes) at byte ⌝ }
     {
         self.bytes[at] = byte;
-    }
-
-    // Stores several bytes, side by side.
-    fn put_all(&mut self, at: usize, bytes: &[u8])
-        requires { ⌜ at + length (now bytes) ≤ N ⌝ }
-        ensures { λ _. ⌜ take (at + length (now (bytes .entry))) (now (self .exit) .bytes) ≡ take at (now (self .entry) .bytes) ++ now (bytes .entry) ⌝ }
-    {
-        let all = &mut self.bytes[..];
-        let end = at + bytes.len();
-        let part = &mut all[at..end];
-        part.copy_from_slice(bytes);
     }
 }
 
@@ -86,8 +77,10 @@ impl<const N: usize> Buffer<N> {
         if bytes.len() > N - self.fill {
             return Err(Full);
         }
-        self.store.put_all(self.fill, bytes);
-        self.fill += bytes.len();
+        for byte in bytes {
+            self.store.put(self.fill, *byte);
+            self.fill += 1;
+        }
         Ok(())
     }
 }
