@@ -1,3 +1,4 @@
+-- What a buffer holds.
 use Prim.Native.Nat.{ℕ}
 use mathlib.Core.List.{List}
 use lib.ListN.{take}

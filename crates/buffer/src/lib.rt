@@ -83,4 +83,16 @@ impl<const N: usize> Buffer<N> {
         }
         Ok(())
     }
+
+    // `bytes` in place of what was there, or no change where they do not fit.
+    pub fn set(&mut self, bytes: &[u8]) -> Result<(), Full>
+        ensures bytes { λ r. ⌜ bytesOf (now (self .exit)) ≡ cond (isOk r) (now (bytes .entry)) (bytesOf (now (self .entry))) ⌝ }
+        ensures test { λ r. ⌜ isOk r ≡ leb (length (now (bytes .entry))) N ⌝ }
+    {
+        if bytes.len() > N {
+            return Err(Full);
+        }
+        self.clear();
+        self.append(bytes)
+    }
 }
