@@ -14,7 +14,7 @@ use Rattle.std.proofs.shelf.Equals.{sameBytes-decides}
 use Rattle.std.proofs.shelf.Lists.{drop-more, take-rest, getD-drop, drop-all}
 use Rattle.std.proofs.shelf.Tests.{cases-bool}
 use Rattle.std.proofs.shelf.Ways.{eqb-tells}
-use Rattle.fields.specs.Field.{Field, comment, other, data′, event, id, retry, before, unspaced, fieldOf}
+use Rattle.fields.specs.Field.{Field, comment, other, dataField, eventField, idField, retryField, before, unspaced, fieldOf}
 
 -- p stands in s from k on
 abbrev pub At : List ℕ → List ℕ → ℕ → Type 0
@@ -51,11 +51,11 @@ named (y ∷ s) [] e =
 named (y ∷ s) (x ∷ p) e =
     ⊎-elim (λ t. let l = ap length (rw (t .0) at e) in absurd (omega arith))
     (λ f.
-        let g : y ∷ before s ≡ x ∷ p = rw (f .0) at e in
-        let h : y ≡ x = cc g in
-        let r : before s ≡ p = cc g in
-        let n = named s p r in
-        (omega (arith, n .0), (h, shift p s y 0 (n .1)), λ k. n .2 (omega arith)))
+    let g : y ∷ before s ≡ x ∷ p = rw (f .0) at e in
+    let h : y ≡ x = cc g in
+    let r : before s ≡ p = cc g in
+    let n = named s p r in
+    (omega (arith, n .0), (h, shift p s y 0 (n .1)), λ k. n .2 (omega arith)))
     (eqb-tells y 58)
 
 -- Lines of the name p say k of their value.
@@ -63,16 +63,16 @@ pub record Keyword (p : List ℕ) (k : List ℕ → Field) : Type 0 where
   pub colon : (t : List ℕ) → fieldOf (p ++ 58 ∷ t) ≡ k (unspaced t)
   pub alone : fieldOf p ≡ k []
 
-pub data-word : Keyword (codes "data") data′
+pub data-word : Keyword (codes "data") dataField
 data-word = record { colon = λ t. refl; alone = refl }
 
-pub event-word : Keyword (codes "event") event
+pub event-word : Keyword (codes "event") eventField
 event-word = record { colon = λ t. refl; alone = refl }
 
-pub id-word : Keyword (codes "id") id
+pub id-word : Keyword (codes "id") idField
 id-word = record { colon = λ t. refl; alone = refl }
 
-pub retry-word : Keyword (codes "retry") retry
+pub retry-word : Keyword (codes "retry") retryField
 retry-word = record { colon = λ t. refl; alone = refl }
 
 unspaced-same : (t : List ℕ) → (getD t 0 0 ≡ 32 → ⊥) → unspaced t ≡ t

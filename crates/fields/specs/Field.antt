@@ -11,7 +11,7 @@ use Rattle.std.specs.shelf.Text.{sameBytes}
 
 pub data Field : Type 0 where
   comment other : Field
-  data′ event id retry : List ℕ → Field
+  dataField eventField idField retryField : List ℕ → Field
 
 -- what stands before the first colon
 abbrev pub before : List ℕ → List ℕ
@@ -34,21 +34,21 @@ value line = unspaced (after line)
 -- Names match exactly.
 abbrev pub named : List ℕ → List ℕ → Field
 named name v =
-    cond (sameBytes name (codes "data")) (data′ v)
-    (cond (sameBytes name (codes "event")) (event v)
-    (cond (sameBytes name (codes "id")) (id v)
-    (cond (sameBytes name (codes "retry")) (retry v) other)))
+    cond (sameBytes name (codes "data")) (dataField v)
+    (cond (sameBytes name (codes "event")) (eventField v)
+    (cond (sameBytes name (codes "id")) (idField v)
+    (cond (sameBytes name (codes "retry")) (retryField v) other)))
 
 abbrev pub fieldOf : List ℕ → Field
 fieldOf line = cond (eqb (getD line 0 0) 0x3A) comment (named (before line) (value line))
 
-example : fieldOf (codes "data: a: b") ≡ data′ (codes "a: b")
+example : fieldOf (codes "data: a: b") ≡ dataField (codes "a: b")
 example = refl
 
-example-two-spaces : fieldOf (codes "id:  x") ≡ id (codes " x")
+example-two-spaces : fieldOf (codes "id:  x") ≡ idField (codes " x")
 example-two-spaces = refl
 
-example-name-alone : fieldOf (codes "event") ≡ event []
+example-name-alone : fieldOf (codes "event") ≡ eventField []
 example-name-alone = refl
 
 example-comment : fieldOf (codes ":data: a") ≡ comment

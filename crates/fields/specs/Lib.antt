@@ -1,2 +1,5 @@
 pub mod Field
+pub mod Cause
+pub mod Block
+pub mod Hand
 pub mod Code
