@@ -31,13 +31,13 @@ causeOf LongData = dataTooLong
 causeOf (Sink f) = refusedBySink (f .number)
 
 -- A line's answer: whether an event was kept, or the fault.
-abbrev pub answerOf : Result Bool FieldFault → Answer
+abbrev pub answerOf : Result Bool FieldFault → Answer Cause
 answerOf (Ok true) = kept
 answerOf (Ok false) = quiet
 answerOf (Err f) = faulted (causeOf f)
 
 -- .. of a field alone, which keeps no event
-abbrev pub fieldAnswer : Result (Unit {0}) FieldFault → Answer
+abbrev pub fieldAnswer : Result (Unit {0}) FieldFault → Answer Cause
 fieldAnswer (Ok u) = quiet
 fieldAnswer (Err f) = faulted (causeOf f)
 
@@ -45,7 +45,7 @@ abbrev pub heldOf : Fields → Held
 heldOf f = record { dataBuffer = bytesOf (f .«data»); typeBuffer = bytesOf (f .«event_type»); idBuffer = bytesOf (f .id); lastId = bytesOf (f .last); retry = f .retry }
 
 -- what a field's outcome answers
-abbrev pub fieldTold : Outcome → Answer
+abbrev pub fieldTold : Outcome → Answer Cause
 fieldTold nothing = quiet
 fieldTold (event e) = kept
 fieldTold (over c) = faulted c
