@@ -17,7 +17,7 @@ pub const REPLACEMENT: Character = Character::Three(0xEF, 0xBF, 0xBD);
 
 impl Character {
     // Whether this is U+FEFF, the byte order mark.
-    pub fn is_mark(self) -> bool
+    pub(crate) fn is_mark(self) -> bool
         ensures { λ r. ⌜ r ≡ isMark (bytesOf self) ⌝ }
     {
         match self {

@@ -70,33 +70,38 @@ mod tests {
     use super::*;
     use std::test::*;
 
+    fn gives(heap: Global, pieces: &[&[u8]], text: &[u8]) -> Result<(), Fail> {
+        let out = decode_pieces(heap, pieces)?;
+        check(out.as_slice() == text)
+    }
+
     #[test]
     fn broken_character(rt: LibcRuntime) -> Result<(), Fail> {
-        let whole: [&[u8]; 1] = [b"\xE2\x82\x41"];
-        let cut: [&[u8]; 3] = [b"\xE2", b"\x82", b"\x41"];
-        let text = decode_pieces(rt.alloc(), &whole)?;
-        check(text.as_slice() == b"\xEF\xBF\xBDA")?;
-        let text = decode_pieces(rt.alloc(), &cut)?;
-        check(text.as_slice() == b"\xEF\xBF\xBDA")
+        gives(rt.alloc(), &[b"\xE2\x82A"], b"\xEF\xBF\xBDA")?;
+        gives(rt.alloc(), &[b"\xE2", b"\x82", b"A"], b"\xEF\xBF\xBDA")
     }
 
     #[test]
     fn broken_by_a_stray_byte(rt: LibcRuntime) -> Result<(), Fail> {
-        let whole: [&[u8]; 1] = [b"\xF0\x80"];
-        let cut: [&[u8]; 3] = [b"\xF0", b"", b"\x80"];
-        let text = decode_pieces(rt.alloc(), &whole)?;
-        check(text.as_slice() == b"\xEF\xBF\xBD\xEF\xBF\xBD")?;
-        let text = decode_pieces(rt.alloc(), &cut)?;
-        check(text.as_slice() == b"\xEF\xBF\xBD\xEF\xBF\xBD")
+        gives(rt.alloc(), &[b"\xF0\x80"], b"\xEF\xBF\xBD\xEF\xBF\xBD")?;
+        gives(
+            rt.alloc(),
+            &[b"\xF0", b"", b"\x80"],
+            b"\xEF\xBF\xBD\xEF\xBF\xBD",
+        )
     }
 
     #[test]
     fn mark_at_the_start_only(rt: LibcRuntime) -> Result<(), Fail> {
-        let whole: [&[u8]; 1] = [b"\xEF\xBB\xBFa\xEF\xBB\xBF"];
-        let cut: [&[u8]; 3] = [b"\xEF\xBB", b"\xBFa\xEF", b"\xBB\xBF"];
-        let text = decode_pieces(rt.alloc(), &whole)?;
-        check(text.as_slice() == b"a\xEF\xBB\xBF")?;
-        let text = decode_pieces(rt.alloc(), &cut)?;
-        check(text.as_slice() == b"a\xEF\xBB\xBF")
+        gives(
+            rt.alloc(),
+            &[b"\xEF\xBB\xBFa\xEF\xBB\xBF"],
+            b"a\xEF\xBB\xBF",
+        )?;
+        gives(
+            rt.alloc(),
+            &[b"\xEF\xBB", b"\xBFa\xEF", b"\xBB\xBF"],
+            b"a\xEF\xBB\xBF",
+        )
     }
 }

@@ -24,7 +24,7 @@ const WIDTHS: [u8; 256] = [
 ];
 
 // The length of the character that `byte` begins, 0 where none begins.
-pub fn width(byte: u8) -> u8
+pub(crate) fn width(byte: u8) -> u8
     ensures { λ r. ⌜ r ≡ widthOf byte ⌝ }
 {
     WIDTHS[byte as usize]
