@@ -1,0 +1,5 @@
+pub mod Standard
+pub mod Machine
+pub mod Code
+pub mod Relation
+pub mod Laws
