@@ -1,0 +1,4 @@
+pub mod Line
+pub mod Text
+pub mod Reader
+pub mod Code

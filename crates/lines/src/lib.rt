@@ -1,0 +1,11 @@
+// From the bytes of a stream to lines, and with fields and sink to events: the reader of a stream.
+mod fault;
+mod reader;
+mod text;
+mod turns;
+
+pub use fault::Fault;
+pub use fault::Layer;
+pub use fault::LineFault;
+pub use fault::LineFromField;
+pub use reader::Reader;

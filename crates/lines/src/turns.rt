@@ -1,0 +1,82 @@
+// What a character does to the line that is being built.
+ghost use mathlib.Core.Path.{_≡_};
+ghost use mathlib.Core.List.{[]};
+ghost use Rattle.decoder.specs.Code.{bytesOf};
+ghost use Rattle.fields.specs.Block.{unread};
+ghost use Rattle.fields.specs.Code.{fieldTold};
+ghost use Rattle.lines.specs.Line.{ended, longer};
+ghost use Rattle.lines.specs.Text.{begun, turned, handTurn, handChar};
+ghost use Rattle.lines.specs.Code.{textOf, lineAnswer, textAnswer};
+use crate::fault::LineFault;
+use crate::fault::LineFromField;
+use crate::text::Lines;
+use buffer::Buffer;
+use buffer::Full;
+use decoder::Character;
+use fields::Fields;
+use sink::Sink;
+
+impl Lines {
+    pub(crate) fn new() -> Lines
+        ensures { λ r. ⌜ textOf r ≡ begun unread ⌝ }
+    {
+        Lines {
+            line: Buffer::new(),
+            after_cr: false,
+            number: 1,
+            fields: Fields::new(),
+        }
+    }
+
+    // Text that ends no line.
+    pub(crate) fn append(&mut self, bytes: &[u8]) -> Result<(), LineFault>
+        ensures text { λ r. ⌜ textOf (now (self .exit)) ≡ turned (textOf (now (self .entry))) (longer (textOf (now (self .entry)) .line) (now (bytes .entry))) .text ⌝ }
+        ensures answer { λ r. ⌜ textAnswer r ≡ fieldTold (turned (textOf (now (self .entry))) (longer (textOf (now (self .entry)) .line) (now (bytes .entry))) .outcome) ⌝ }
+    {
+        match self.line.append(bytes) {
+            Ok(()) => {
+                self.after_cr = false;
+                Ok(())
+            }
+            Err(Full) => Err(LineFault::Long),
+        }
+    }
+
+    // The end of a line, by a CR or not.
+    fn end<S: Sink>(&mut self, cr: bool, sink: &mut S) -> Result<bool, LineFault>
+        ensures text { λ r. ⌜ textOf (now (self .exit)) ≡ handTurn (S·Sink .refusal) (S·Sink .after) (textOf (now (self .entry))) (S·Sink .state (now (sink .entry))) (ended (record { afterCr = cr; built = [] }) (textOf (now (self .entry)) .line .built)) .held ⌝ }
+        ensures sink { λ r. ⌜ S·Sink .state (now (sink .exit)) ≡ handTurn (S·Sink .refusal) (S·Sink .after) (textOf (now (self .entry))) (S·Sink .state (now (sink .entry))) (ended (record { afterCr = cr; built = [] }) (textOf (now (self .entry)) .line .built)) .sink ⌝ }
+        ensures answer { λ r. ⌜ lineAnswer r ≡ handTurn (S·Sink .refusal) (S·Sink .after) (textOf (now (self .entry))) (S·Sink .state (now (sink .entry))) (ended (record { afterCr = cr; built = [] }) (textOf (now (self .entry)) .line .built)) .answer ⌝ }
+    {
+        let kept = self.fields.line(self.line.as_slice(), sink)?;
+        self.line.clear();
+        self.after_cr = cr;
+        self.number = self.number.saturating_add(1);
+        Ok(kept)
+    }
+
+    // A character of the text. Answers whether it kept an event.
+    pub(crate) fn character<S: Sink>(
+        &mut self,
+        c: Character,
+        sink: &mut S,
+    ) -> Result<bool, LineFault>
+        ensures text { λ r. ⌜ textOf (now (self .exit)) ≡ handChar (S·Sink .refusal) (S·Sink .after) (textOf (now (self .entry))) (S·Sink .state (now (sink .entry))) (bytesOf c) .held ⌝ }
+        ensures sink { λ r. ⌜ S·Sink .state (now (sink .exit)) ≡ handChar (S·Sink .refusal) (S·Sink .after) (textOf (now (self .entry))) (S·Sink .state (now (sink .entry))) (bytesOf c) .sink ⌝ }
+        ensures answer { λ r. ⌜ lineAnswer r ≡ handChar (S·Sink .refusal) (S·Sink .after) (textOf (now (self .entry))) (S·Sink .state (now (sink .entry))) (bytesOf c) .answer ⌝ }
+    {
+        match c {
+            Character::One(b'\n') if self.after_cr => {
+                self.after_cr = false;
+                return Ok(false);
+            }
+            Character::One(b'\n') => return self.end(false, sink),
+            Character::One(b'\r') => return self.end(true, sink),
+            Character::One(a) => self.append(&[a])?,
+            Character::Two(a, b) => self.append(&[a, b])?,
+            Character::Three(a, b, c) => self.append(&[a, b, c])?,
+            Character::Four(a, b, c, d) => self.append(&[a, b, c, d])?,
+        }
+        Ok(false)
+    }
+}
