@@ -8,7 +8,7 @@ use Rattle.events.specs.Event.{Event}
 use Rattle.decoder.specs.Standard.{Char}
 use Rattle.fields.specs.Cause.{Cause, lineTooLong}
 use Rattle.fields.specs.Block.{Held, Outcome, nothing, over, renewed, emptied, said}
-use Rattle.fields.specs.Hand.{quiet, kept, faulted, Handed, hand}
+use Rattle.fields.specs.Hand.{Answer, quiet, kept, faulted, Handed, hand}
 use Rattle.lines.specs.Line.{Line, noLine, Turn, goesOn, ended, tooLong, turn}
 
 -- Counts of lines and bytes stop here.
@@ -49,8 +49,11 @@ pub record Ran (X : Type 0) : Type 0 where
   pub kept : ℕ
   pub stop : Option Cause
 
-abbrev pub more : {X : Type 0} → Ran X → Ran X
-more r = record { text = r .text; sink = r .sink; kept = r .kept + 1; stop = r .stop }
+-- what comes after a character, unless it was a fault
+abbrev pub resumed : {X : Type 0} → Handed Text X → Answer Cause → Ran X → Ran X
+resumed h quiet r = r
+resumed h kept r = record { text = r .text; sink = r .sink; kept = r .kept + 1; stop = r .stop }
+resumed h (faulted d) r = record { text = h .held; sink = h .sink; kept = 0; stop = Some d }
 
 module _ {X : Type 0} (refusal : X → Event → ℕ) (after : X → Event → X) where
   -- what a character does, and the sink
@@ -65,8 +68,4 @@ module _ {X : Type 0} (refusal : X → Event → ℕ) (after : X → Event → X
   handChars t x [] = record { text = t; sink = x; kept = 0; stop = None }
   handChars t x (c ∷ cs) =
       let h = handChar t x c in
-      elim (h .answer) [
-        | quiet ↦ handChars (h .held) (h .sink) cs
-        | kept ↦ more (handChars (h .held) (h .sink) cs)
-        | faulted d ↦ record { text = h .held; sink = h .sink; kept = 0; stop = Some d }
-      ]
+      resumed h (h .answer) (handChars (h .held) (h .sink) cs)

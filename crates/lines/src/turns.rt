@@ -1,18 +1,20 @@
 // What a character does to the line that is being built.
 ghost use mathlib.Core.Path.{_≡_};
 ghost use mathlib.Core.List.{[]};
-ghost use Rattle.decoder.specs.Code.{bytesOf};
+ghost use Prim.Native.Nat.{_≤_};
+ghost use Rattle.decoder.specs.Code.{bytesOf, charsOf};
 ghost use Rattle.fields.specs.Block.{unread};
 ghost use Rattle.fields.specs.Code.{fieldTold};
 ghost use Rattle.lines.specs.Line.{ended, longer};
-ghost use Rattle.lines.specs.Text.{begun, turned, handTurn, handChar};
-ghost use Rattle.lines.specs.Code.{textOf, lineAnswer, textAnswer};
+ghost use Rattle.lines.specs.Text.{begun, turned, handTurn, handChar, handChars};
+ghost use Rattle.lines.specs.Code.{textOf, lineAnswer, textAnswer, answered};
 use crate::fault::LineFault;
 use crate::fault::LineFromField;
 use crate::text::Lines;
 use buffer::Buffer;
 use buffer::Full;
 use decoder::Character;
+use decoder::Given;
 use fields::Fields;
 use sink::Sink;
 
@@ -78,5 +80,22 @@ impl Lines {
             Character::Four(a, b, c, d) => self.append(&[a, b, c, d])?,
         }
         Ok(false)
+    }
+
+    // The characters that a byte gave. Answers whether they kept an event.
+    pub(crate) fn given<S: Sink>(&mut self, given: Given, sink: &mut S) -> Result<bool, LineFault>
+        ensures text { λ r. ⌜ textOf (now (self .exit)) ≡ handChars (S·Sink .refusal) (S·Sink .after) (textOf (now (self .entry))) (S·Sink .state (now (sink .entry))) (charsOf given) .text ⌝ }
+        ensures sink { λ r. ⌜ S·Sink .state (now (sink .exit)) ≡ handChars (S·Sink .refusal) (S·Sink .after) (textOf (now (self .entry))) (S·Sink .state (now (sink .entry))) (charsOf given) .sink ⌝ }
+        ensures answer { λ r. ⌜ lineAnswer r ≡ answered (handChars (S·Sink .refusal) (S·Sink .after) (textOf (now (self .entry))) (S·Sink .state (now (sink .entry))) (charsOf given) .kept) (handChars (S·Sink .refusal) (S·Sink .after) (textOf (now (self .entry))) (S·Sink .state (now (sink .entry))) (charsOf given) .stop) ⌝ }
+        ensures few { λ r. ⌜ handChars (S·Sink .refusal) (S·Sink .after) (textOf (now (self .entry))) (S·Sink .state (now (sink .entry))) (charsOf given) .kept ≤ 1 ⌝ }
+    {
+        match given {
+            Given::Nothing => Ok(false),
+            Given::One(c) => self.character(c, sink),
+            Given::Replaced(c) => {
+                self.append(&[0xEF, 0xBF, 0xBD])?;
+                self.character(c, sink)
+            }
+        }
     }
 }
