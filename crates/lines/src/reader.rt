@@ -11,3 +11,10 @@ pub struct Reader {
     pub(crate) byte: u32,
     pub(crate) fault: Option<Fault>,
 }
+
+// What a piece of a stream came to: the events kept, and the fault at which reading has stopped.
+#[derive(Clone, Copy)]
+pub struct Progress {
+    pub kept: usize,
+    pub fault: Option<Fault>,
+}

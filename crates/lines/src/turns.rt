@@ -30,6 +30,16 @@ impl Lines {
         }
     }
 
+    // A new stream, with the last event ID and the reconnection time as they are.
+    pub(crate) fn restart(&mut self)
+        ensures { λ _. ⌜ textOf (now (self .exit)) ≡ begun (textOf (now (self .entry)) .held) ⌝ }
+    {
+        self.line.clear();
+        self.after_cr = false;
+        self.number = 1;
+        self.fields.renew();
+    }
+
     // Text that ends no line.
     pub(crate) fn append(&mut self, bytes: &[u8]) -> Result<(), LineFault>
         ensures text { λ r. ⌜ textOf (now (self .exit)) ≡ turned (textOf (now (self .entry))) (longer (textOf (now (self .entry)) .line) (now (bytes .entry))) .text ⌝ }

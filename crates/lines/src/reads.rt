@@ -1,0 +1,85 @@
+// Reading a stream, byte by byte and piece by piece.
+ghost use mathlib.Core.Path.{_≡_};
+ghost use Rattle.lines.specs.Reader.{fresh, restarted, lastIdOf, retryOf, faultOf, push, reads};
+ghost use Rattle.lines.specs.Code.{readerOf, faultsSaid, byteAnswer, answered};
+ghost use Prim.Native.Nat.{_≤_};
+use crate::fault::Fault;
+use crate::reader::Progress;
+use crate::reader::Reader;
+use crate::text::Lines;
+use decoder::Decoder;
+use sink::Sink;
+
+impl Reader {
+    // A reader that has read nothing.
+    pub fn new() -> Reader
+        ensures { λ r. ⌜ readerOf r ≡ fresh ⌝ }
+    {
+        Reader {
+            decoder: Decoder::new(),
+            lines: Lines::new(),
+            byte: 0,
+            fault: None,
+        }
+    }
+
+    // Begins a new stream: all but the last event ID and the reconnection time starts anew.
+    pub fn restart(&mut self)
+        ensures { λ _. ⌜ readerOf (now (self .exit)) ≡ restarted (lastIdOf (readerOf (now (self .entry)))) (retryOf (readerOf (now (self .entry)))) ⌝ }
+    {
+        self.decoder = Decoder::new();
+        self.lines.restart();
+        self.byte = 0;
+        self.fault = None;
+    }
+
+    // The last event ID.
+    pub fn last_id(&self) -> &[u8]
+        ensures { λ r. ⌜ now r ≡ lastIdOf (readerOf (now (self .entry))) ⌝ }
+    {
+        self.lines.fields.last_id()
+    }
+
+    // The reconnection time in milliseconds.
+    pub fn retry(&self) -> u32
+        ensures { λ r. ⌜ r ≡ retryOf (readerOf (now (self .entry))) ⌝ }
+    {
+        self.lines.fields.retry()
+    }
+
+    // The fault at which reading has stopped.
+    pub fn fault(&self) -> Option<Fault>
+        ensures { λ r. ⌜ faultsSaid r ≡ faultOf (readerOf (now (self .entry))) ⌝ }
+    {
+        self.fault
+    }
+
+    // Reads one byte, and answers whether an event was kept. Once stopped it reads nothing, and answers the fault again.
+    pub fn push<S: Sink>(&mut self, byte: u8, sink: &mut S) -> Result<bool, Fault>
+        ensures reader { λ r. ⌜ readerOf (now (self .exit)) ≡ push (S·Sink .refusal) (S·Sink .after) (readerOf (now (self .entry))) (S·Sink .state (now (sink .entry))) byte .reader ⌝ }
+        ensures sink { λ r. ⌜ S·Sink .state (now (sink .exit)) ≡ push (S·Sink .refusal) (S·Sink .after) (readerOf (now (self .entry))) (S·Sink .state (now (sink .entry))) byte .sink ⌝ }
+        ensures answer { λ r. ⌜ byteAnswer r ≡ answered (push (S·Sink .refusal) (S·Sink .after) (readerOf (now (self .entry))) (S·Sink .state (now (sink .entry))) byte .kept) (faultOf (push (S·Sink .refusal) (S·Sink .after) (readerOf (now (self .entry))) (S·Sink .state (now (sink .entry))) byte .reader)) ⌝ }
+        ensures few { λ r. ⌜ push (S·Sink .refusal) (S·Sink .after) (readerOf (now (self .entry))) (S·Sink .state (now (sink .entry))) byte .kept ≤ 1 ⌝ }
+    {
+        match self.fault {
+            Some(fault) => return Err(fault),
+            None => {}
+        }
+        let given = self.decoder.push(byte);
+        match self.lines.given(given, sink) {
+            Ok(kept) => {
+                self.byte = self.byte.saturating_add(1);
+                Ok(kept)
+            }
+            Err(cause) => {
+                let fault = Fault {
+                    cause,
+                    line: self.lines.number,
+                    byte: self.byte,
+                };
+                self.fault = Some(fault);
+                Err(fault)
+            }
+        }
+    }
+}
