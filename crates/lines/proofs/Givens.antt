@@ -15,7 +15,7 @@ use Rattle.fields.specs.Code.{fieldTold}
 use Rattle.fields.specs.Hand.{Answer, quiet, kept, faulted, Handed}
 use Rattle.lines.specs.Line.{goesOn, tooLong, longer}
 use Rattle.lines.specs.Text.{Text, turned, Ran, resumed, handTurn, handChar, handChars}
-use Rattle.lines.specs.Code.{answered}
+use Rattle.lines.specs.Code.{answered, most}
 
 module _ {X : Type 0} (refusal : X → Event → ℕ) (after : X → Event → X) where
   -- characters came to r: a text, a sink and an answer
@@ -23,7 +23,7 @@ module _ {X : Type 0} (refusal : X → Event → ℕ) (after : X → Event → X
     pub text : t ≡ r .text
     pub sink : x ≡ r .sink
     pub answer : a ≡ answered (r .kept) (r .stop)
-    pub few : r .kept ≤ 1
+    pub few : r .kept ≤ most (r .stop)
 
   came-alone : (h : Handed Text X) (a : Answer Cause) → Came (resumed h a (record { text = h .held; sink = h .sink; kept = 0; stop = None })) (h .held) (h .sink) a
   came-alone h quiet = record { text = refl; sink = refl; answer = refl; few = omega arith }

@@ -1,3 +1,4 @@
 pub mod Ends
 pub mod Givens
 pub mod Places
+pub mod Pieces

@@ -14,14 +14,14 @@ use Rattle.fields.specs.Cause.{Cause}
 use Rattle.fields.specs.Hand.{Answer, quiet, kept, faulted}
 use Rattle.lines.specs.Text.{Text, counted, Ran, handChars}
 use Rattle.lines.specs.Reader.{Fault, Reading, Reader, reading, stopped, faultOf, Pushed, placed, push}
-use Rattle.lines.specs.Code.{lineAnswer, byteAnswer, answered}
+use Rattle.lines.specs.Code.{lineAnswer, byteAnswer, answered, most}
 
 -- a byte came to p: a reader, a sink and an answer
 pub record Pushes {X : Type 0} (p : Pushed X) (r : Reader) (y : X) (a : Answer Fault) : Type 0 where
   pub reader : r ≡ p .reader
   pub sink : y ≡ p .sink
   pub answer : a ≡ answered (p .kept) (faultOf (p .reader))
-  pub few : p .kept ≤ 1
+  pub few : p .kept ≤ most (faultOf (p .reader))
 
 same-answer : (k : Bool) (n : ℕ) → lineAnswer (Ok k) ≡ answered {F = Cause} n None → byteAnswer (Ok k) ≡ answered {F = Fault} n None
 same-answer true zero e = let z : _≡_ {A = ℕ} 0 1 = cc e in absurd (omega arith)
@@ -37,11 +37,11 @@ no-fault : (c : Cause) (n : ℕ) → faulted c ≡ answered n None → ⊥
 no-fault c zero e = let z : _≡_ {A = ℕ} 0 1 = cc e in omega arith
 no-fault c (suc n) e = let z : _≡_ {A = ℕ} 0 1 = cc e in omega arith
 
-placed-well : {X : Type 0} (r : Reading) (d : decoder.State) (h : Ran X) (o : Option Cause) (k : Bool) → lineAnswer (Ok k) ≡ answered (h .kept) o → h .kept ≤ 1 → Pushes (placed r d h o) (reading (record { decoder = d; text = h .text; byte = counted (r .byte) })) (h .sink) (byteAnswer (Ok k))
+placed-well : {X : Type 0} (r : Reading) (d : decoder.State) (h : Ran X) (o : Option Cause) (k : Bool) → lineAnswer (Ok k) ≡ answered (h .kept) o → h .kept ≤ most o → Pushes (placed r d h o) (reading (record { decoder = d; text = h .text; byte = counted (r .byte) })) (h .sink) (byteAnswer (Ok k))
 placed-well r d h None k e f = record { reader = refl; sink = refl; answer = same-answer k (h .kept) e; few = f }
 placed-well r d h (Some c) k e f = absurd (not-both k c e)
 
-placed-stopped : {X : Type 0} (r : Reading) (d : decoder.State) (h : Ran X) (o : Option Cause) (c : Cause) → faulted c ≡ answered (h .kept) o → h .kept ≤ 1 → (let f : Fault = record { cause = c; line = h .text .number; byte = r .byte } in Pushes (placed r d h o) (stopped (h .text .held .lastId) (h .text .held .retry) f) (h .sink) (faulted f))
+placed-stopped : {X : Type 0} (r : Reading) (d : decoder.State) (h : Ran X) (o : Option Cause) (c : Cause) → faulted c ≡ answered (h .kept) o → h .kept ≤ most o → (let f : Fault = record { cause = c; line = h .text .number; byte = r .byte } in Pushes (placed r d h o) (stopped (h .text .held .lastId) (h .text .held .retry) f) (h .sink) (faulted f))
 placed-stopped r d h None c e f = absurd (no-fault c (h .kept) e)
 placed-stopped r d h (Some c′) c e f =
     let q : c ≡ c′ = cc e in
@@ -60,12 +60,12 @@ module _ {X : Type 0} (refusal : X → Event → ℕ) (after : X → Event → X
   abbrev pub run : List Char → Ran X
   run gs = handChars refusal after (r .text) x gs
 
-  module _ (d : decoder.State) (gs : List Char) (t : Text) (y : X) (ed : d ≡ decoder.step (r .decoder) b .state) (eg : gs ≡ decoder.step (r .decoder) b .out) (et : t ≡ run gs .text) (ey : y ≡ run gs .sink) (few : run gs .kept ≤ 1) where
+  module _ (d : decoder.State) (gs : List Char) (t : Text) (y : X) (ed : d ≡ decoder.step (r .decoder) b .state) (eg : gs ≡ decoder.step (r .decoder) b .out) (et : t ≡ run gs .text) (ey : y ≡ run gs .sink) (few : run gs .kept ≤ most (run gs .stop)) where
     all : {Y : Type 0} (f : Ran X → Y) → f (run gs) ≡ f (run (decoder.step (r .decoder) b .out))
     all f = ap (λ cs. f (run cs)) eg
 
-    same-few : run (decoder.step (r .decoder) b .out) .kept ≤ 1
-    same-few = let q = all (λ h. h .kept) in omega arith
+    same-few : run (decoder.step (r .decoder) b .out) .kept ≤ most (run (decoder.step (r .decoder) b .out) .stop)
+    same-few = subst (λ cs. run cs .kept ≤ most (run cs .stop)) eg few
 
     pub goes-on : (n : ℕ) (k : Bool) → n ≡ counted (r .byte) → lineAnswer (Ok k) ≡ answered (run gs .kept) (run gs .stop) → Pushes (push refusal after (reading r) x b) (reading (record { decoder = d; text = t; byte = n })) y (byteAnswer (Ok k))
     goes-on n k en ea =

@@ -61,6 +61,11 @@ answered n (Some f) = faulted f
 answered zero None = quiet
 answered (suc n) None = kept
 
+-- A byte keeps at most one event, and none where it meets a fault.
+abbrev pub most : {F : Type 0} → Option F → ℕ
+most None = 1
+most (Some f) = 0
+
 abbrev pub textOf : Lines → Text
 textOf l = record { line = record { afterCr = l .«after_cr»; built = bytesOf (l .line) }; number = l .number; held = heldOf (l .fields) }
 

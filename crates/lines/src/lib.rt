@@ -1,4 +1,5 @@
 // From the bytes of a stream to lines, and with fields and sink to events: the reader of a stream.
+mod causes;
 mod fault;
 mod reader;
 mod reads;

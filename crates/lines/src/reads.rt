@@ -1,7 +1,7 @@
 // Reading a stream, byte by byte and piece by piece.
 ghost use mathlib.Core.Path.{_≡_};
 ghost use Rattle.lines.specs.Reader.{fresh, restarted, lastIdOf, retryOf, faultOf, push, reads};
-ghost use Rattle.lines.specs.Code.{readerOf, faultsSaid, byteAnswer, answered};
+ghost use Rattle.lines.specs.Code.{readerOf, faultsSaid, byteAnswer, answered, most};
 ghost use Prim.Native.Nat.{_≤_};
 use crate::fault::Fault;
 use crate::reader::Progress;
@@ -59,7 +59,7 @@ impl Reader {
         ensures reader { λ r. ⌜ readerOf (now (self .exit)) ≡ push (S·Sink .refusal) (S·Sink .after) (readerOf (now (self .entry))) (S·Sink .state (now (sink .entry))) byte .reader ⌝ }
         ensures sink { λ r. ⌜ S·Sink .state (now (sink .exit)) ≡ push (S·Sink .refusal) (S·Sink .after) (readerOf (now (self .entry))) (S·Sink .state (now (sink .entry))) byte .sink ⌝ }
         ensures answer { λ r. ⌜ byteAnswer r ≡ answered (push (S·Sink .refusal) (S·Sink .after) (readerOf (now (self .entry))) (S·Sink .state (now (sink .entry))) byte .kept) (faultOf (push (S·Sink .refusal) (S·Sink .after) (readerOf (now (self .entry))) (S·Sink .state (now (sink .entry))) byte .reader)) ⌝ }
-        ensures few { λ r. ⌜ push (S·Sink .refusal) (S·Sink .after) (readerOf (now (self .entry))) (S·Sink .state (now (sink .entry))) byte .kept ≤ 1 ⌝ }
+        ensures few { λ r. ⌜ push (S·Sink .refusal) (S·Sink .after) (readerOf (now (self .entry))) (S·Sink .state (now (sink .entry))) byte .kept ≤ most (faultOf (push (S·Sink .refusal) (S·Sink .after) (readerOf (now (self .entry))) (S·Sink .state (now (sink .entry))) byte .reader)) ⌝ }
     {
         match self.fault {
             Some(fault) => return Err(fault),
@@ -80,6 +80,35 @@ impl Reader {
                 self.fault = Some(fault);
                 Err(fault)
             }
+        }
+    }
+
+    // Reads a piece of the stream, up to the first fault.
+    pub fn read<S: Sink>(&mut self, piece: &[u8], sink: &mut S) -> Progress
+        ensures reader { λ r. ⌜ readerOf (now (self .exit)) ≡ reads (S·Sink .refusal) (S·Sink .after) (readerOf (now (self .entry))) (S·Sink .state (now (sink .entry))) (now (piece .entry)) .reader ⌝ }
+        ensures sink { λ r. ⌜ S·Sink .state (now (sink .exit)) ≡ reads (S·Sink .refusal) (S·Sink .after) (readerOf (now (self .entry))) (S·Sink .state (now (sink .entry))) (now (piece .entry)) .sink ⌝ }
+        ensures kept { λ r. ⌜ r .kept ≡ reads (S·Sink .refusal) (S·Sink .after) (readerOf (now (self .entry))) (S·Sink .state (now (sink .entry))) (now (piece .entry)) .kept ⌝ }
+        ensures fault { λ r. ⌜ faultsSaid (r .fault) ≡ faultOf (reads (S·Sink .refusal) (S·Sink .after) (readerOf (now (self .entry))) (S·Sink .state (now (sink .entry))) (now (piece .entry)) .reader) ⌝ }
+    {
+        let mut kept = 0;
+        for byte in piece {
+            match self.push(*byte, sink) {
+                Ok(event) => {
+                    if event {
+                        kept += 1;
+                    }
+                }
+                Err(fault) => {
+                    return Progress {
+                        kept,
+                        fault: Some(fault),
+                    };
+                }
+            }
+        }
+        Progress {
+            kept,
+            fault: self.fault,
         }
     }
 }

@@ -7,7 +7,7 @@ ghost use Rattle.fields.specs.Block.{unread};
 ghost use Rattle.fields.specs.Code.{fieldTold};
 ghost use Rattle.lines.specs.Line.{ended, longer};
 ghost use Rattle.lines.specs.Text.{begun, turned, handTurn, handChar, handChars};
-ghost use Rattle.lines.specs.Code.{textOf, lineAnswer, textAnswer, answered};
+ghost use Rattle.lines.specs.Code.{textOf, lineAnswer, textAnswer, answered, most};
 use crate::fault::LineFault;
 use crate::fault::LineFromField;
 use crate::text::Lines;
@@ -97,7 +97,7 @@ impl Lines {
         ensures text { λ r. ⌜ textOf (now (self .exit)) ≡ handChars (S·Sink .refusal) (S·Sink .after) (textOf (now (self .entry))) (S·Sink .state (now (sink .entry))) (charsOf given) .text ⌝ }
         ensures sink { λ r. ⌜ S·Sink .state (now (sink .exit)) ≡ handChars (S·Sink .refusal) (S·Sink .after) (textOf (now (self .entry))) (S·Sink .state (now (sink .entry))) (charsOf given) .sink ⌝ }
         ensures answer { λ r. ⌜ lineAnswer r ≡ answered (handChars (S·Sink .refusal) (S·Sink .after) (textOf (now (self .entry))) (S·Sink .state (now (sink .entry))) (charsOf given) .kept) (handChars (S·Sink .refusal) (S·Sink .after) (textOf (now (self .entry))) (S·Sink .state (now (sink .entry))) (charsOf given) .stop) ⌝ }
-        ensures few { λ r. ⌜ handChars (S·Sink .refusal) (S·Sink .after) (textOf (now (self .entry))) (S·Sink .state (now (sink .entry))) (charsOf given) .kept ≤ 1 ⌝ }
+        ensures few { λ r. ⌜ handChars (S·Sink .refusal) (S·Sink .after) (textOf (now (self .entry))) (S·Sink .state (now (sink .entry))) (charsOf given) .kept ≤ most (handChars (S·Sink .refusal) (S·Sink .after) (textOf (now (self .entry))) (S·Sink .state (now (sink .entry))) (charsOf given) .stop) ⌝ }
     {
         match given {
             Given::Nothing => Ok(false),
