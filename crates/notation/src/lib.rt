@@ -45,7 +45,7 @@ mod tests {
         let before = transcript.text().len();
         check(keep(&mut transcript, &page) == Err(SinkFault { number: 29 }))?;
         check(transcript.text().len() == before)?;
-        keep(&mut transcript, b"short")
+        check(keep(&mut transcript, b"short") == Ok(()))
     }
 
     #[test]
