@@ -1,1 +1,5 @@
 pub mod Answer
+pub mod Numeral
+pub mod Chain
+pub mod Capped
+pub mod Codes

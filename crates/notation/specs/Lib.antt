@@ -1,0 +1,3 @@
+pub mod Quoted
+pub mod Transcript
+pub mod Kept
