@@ -25,6 +25,10 @@ escaped b =
 abbrev pub quoted : List ℕ → List ℕ
 quoted s = 34 ∷ joined escaped s ++ 34 ∷ []
 
+-- a line of a word and a text between quotes
+abbrev pub noteLine : List ℕ → List ℕ → List ℕ
+noteLine word s = word ++ (32 ∷ quoted s ++ 10 ∷ [])
+
 -- the line of an event: that word, then the id, the type and the data
 abbrev pub eventLine : Event → List ℕ
 eventLine e = codes "event " ++ (quoted (e .id) ++ (32 ∷ quoted (e .type) ++ (32 ∷ quoted (e .«data») ++ 10 ∷ [])))

@@ -38,7 +38,7 @@ mod tests {
     #[test]
     fn refuses_what_does_not_fit(rt: LibcRuntime) -> Result<(), Fail> {
         let mut transcript = Transcript::new(rt.alloc())?;
-        let page = [b'x'; 16384];
+        let page = [b'x'; 65536];
         for _ in 0..3 {
             keep(&mut transcript, &page)?;
         }

@@ -2,9 +2,9 @@
 ghost use Prim.Native.Nat.{_≤_};
 ghost use Rattle.std.specs.Of.Vec.{vec-cap};
 
-// A text of at most 65536 bytes, in memory that is taken once.
+// A text of at most 262144 bytes, in memory that is taken once.
 #[derive(Drop)]
 pub struct Transcript {
     pub(crate) text: Vec<u8>,
-    ghost reserved: { 65537 ≤ vec-cap text },
+    ghost reserved: { 262145 ≤ vec-cap text },
 }

@@ -1,11 +1,14 @@
 // A sink that writes each event down in a line.
-ghost use mathlib.Core.List.{[], _∷_, List};
+ghost use mathlib.Core.Bool.{cond};
+ghost use mathlib.Core.List.{[], _∷_, _++_, List};
 ghost use mathlib.Core.Path.{_≡_};
-ghost use Prim.Native.Nat.{ℕ, _<_};
+ghost use Prim.Native.Nat.{ℕ, _+_, _<_};
+ghost use lib.Dec.{leb};
+ghost use lib.ListN.{length, take};
 ghost use Rattle.std.specs.Vec.{made};
 ghost use Rattle.events.specs.Event.{eventOf};
 ghost use Rattle.notation.specs.Kept.{textOf};
-ghost use Rattle.notation.specs.Quoted.{hexOf, escaped, quoted, eventLine};
+ghost use Rattle.notation.specs.Quoted.{hexOf, escaped, quoted, noteLine, eventLine};
 ghost use Rattle.notation.specs.Transcript.{clipped, transcriptAfter, transcriptRefusal};
 use crate::page::Transcript;
 use events::Event;
@@ -15,10 +18,10 @@ use std::alloc::AllocError;
 use std::alloc::Global;
 
 // The longest text.
-const CAPACITY: usize = 65536;
+const CAPACITY: usize = 262144;
 
 // The memory for it, with a byte more: a text that has that byte too does not fit.
-const RESERVED: usize = 65537;
+const RESERVED: usize = 262145;
 
 // The number that an event is refused with where its line does not fit.
 const TRANSCRIPT_FULL: u32 = 29;
@@ -100,6 +103,37 @@ impl Transcript {
         self.put(b'"');
     }
 
+    // Takes back what was written behind `before` bytes if the text is too long now, and answers whether it stays.
+    fn settle(&mut self, before: usize) -> bool
+        ensures text { λ r. ⌜ textOf (now (self .exit)) ≡ cond r (textOf (now (self .entry))) (take before (textOf (now (self .entry)))) ⌝ }
+        ensures test { λ r. ⌜ r ≡ leb (length (textOf (now (self .entry)))) 262144 ⌝ }
+    {
+        if self.text.len() > CAPACITY {
+            self.text.truncate(before);
+            return false;
+        }
+        true
+    }
+
+    // Writes a line of a word and bytes between quotes, or nothing where it does not fit; answers whether it was written.
+    pub fn note(&mut self, word: &[u8], bytes: &[u8]) -> bool
+        ensures text { λ r. ⌜ textOf (now (self .exit)) ≡ cond r (textOf (now (self .entry)) ++ noteLine (now (word .entry)) (now (bytes .entry))) (textOf (now (self .entry))) ⌝ }
+        ensures test { λ r. ⌜ r ≡ leb (length (textOf (now (self .entry))) + length (noteLine (now (word .entry)) (now (bytes .entry)))) 262144 ⌝ }
+    {
+        let before = self.text.len();
+        self.put_note(word, bytes);
+        self.settle(before)
+    }
+
+    fn put_note(&mut self, word: &[u8], bytes: &[u8])
+        ensures { λ _. ⌜ textOf (now (self .exit)) ≡ clipped (textOf (now (self .entry))) (noteLine (now (word .entry)) (now (bytes .entry))) ⌝ }
+    {
+        self.put_all(word);
+        self.put(b' ');
+        self.put_quoted(bytes);
+        self.put(b'\n');
+    }
+
     // Writes the line of an event.
     fn put_event(&mut self, event: Event<'_>)
         ensures { λ _. ⌜ textOf (now (self .exit)) ≡ clipped (textOf (now (self .entry))) (eventLine (eventOf (event .entry))) ⌝ }
@@ -128,12 +162,12 @@ pub impl Sink for Transcript as TranscriptSink {
     fn keep(&mut self, event: Event<'_>) -> Result<(), SinkFault> {
         let before = self.text.len();
         self.put_event(event);
-        if self.text.len() > CAPACITY {
-            self.text.truncate(before);
-            return Err(SinkFault {
+        if self.settle(before) {
+            Ok(())
+        } else {
+            Err(SinkFault {
                 number: TRANSCRIPT_FULL,
-            });
+            })
         }
-        Ok(())
     }
 }
