@@ -1,0 +1,51 @@
+// pedalfeed: reads a recorded event stream and tells what a pedalboard would keep of it.
+mod command;
+mod input;
+mod output;
+
+use crate::command::Command;
+use crate::command::asked;
+use crate::command::usage;
+use crate::input::read_input;
+use crate::output::TallyOutput;
+use crate::output::TranscriptOutput;
+use crate::output::tell_end;
+use lines::Reader;
+use notation::Tally;
+use notation::Transcript;
+use std::env;
+use std::error::AnyError;
+
+fn main(rt: LibcRuntime) -> Result<(), AnyError> {
+    let words: Vec<String> = env::args(&rt)?.collect(rt.alloc())?;
+    match asked(&words) {
+        Command::Help => {
+            rt.print(usage())?;
+            Ok(())
+        }
+        Command::Read(piece) => read(&rt, piece),
+        Command::Count(piece) => count(&rt, piece),
+        Command::Wrong(why) => {
+            eprintln!(rt, "error: {why}")?;
+            rt.stderr().print(usage())?;
+            Err(why.into())
+        }
+    }
+}
+
+// Prints each event, and how the stream ended.
+fn read(rt: &LibcRuntime, piece: Option<usize>) -> Result<(), AnyError> {
+    let mut reader = Reader::new();
+    let mut transcript = Transcript::new(rt.alloc())?;
+    read_input(rt, piece, &mut reader, &mut transcript)?;
+    tell_end(rt, &reader)
+}
+
+// Prints how many events there are, and how the stream ended.
+fn count(rt: &LibcRuntime, piece: Option<usize>) -> Result<(), AnyError> {
+    let mut reader = Reader::new();
+    let mut tally = Tally::new();
+    read_input(rt, piece, &mut reader, &mut tally)?;
+    println!(rt, "events {}", tally.kept())?;
+    tell_end(rt, &reader)
+}
