@@ -156,6 +156,20 @@ impl Decoder {
         ensures state { λ r. ⌜ stateOf (now (self .exit)) ≡ step (stateOf (now (self .entry))) byte .state ⌝ }
         ensures out { λ r. ⌜ charsOf r ≡ step (stateOf (now (self .entry))) byte .out ⌝ }
     {
+        // the short way of most bytes, which the compiler can take into the caller
+        match self.pending {
+            Pending::Nothing if self.started && width(byte) == 1 => {
+                Given::One(Character::One(byte))
+            }
+            _ => self.advance(byte),
+        }
+    }
+
+    // The long way of any byte.
+    fn advance(&mut self, byte: u8) -> Given
+        ensures state { λ r. ⌜ stateOf (now (self .exit)) ≡ step (stateOf (now (self .entry))) byte .state ⌝ }
+        ensures out { λ r. ⌜ charsOf r ≡ step (stateOf (now (self .entry))) byte .out ⌝ }
+    {
         let Next { pending, out } = read(self.pending, byte);
         self.pending = pending;
         if self.started {

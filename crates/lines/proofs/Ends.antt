@@ -1,10 +1,13 @@
 -- What the end of a line does to the text is what the line does to the block.
 use mathlib.Core.Path.{_≡_, refl, sym, ap, _∙_}
-use mathlib.Core.List.{List, [], _++_}
+use mathlib.Core.List.{List, [], _∷_, _++_}
+use mathlib.Core.Logic.{_⊎_, inl, inr}
 use mathlib.Core.Bool.{Bool, true, false, cond}
-use Prim.Native.Nat.{ℕ, _+_}
-use lib.Dec.{eqb, leb}
+use Prim.Native.Nat.{ℕ, _+_, _≤_, _<_}
+use native.Mathlib.Omega.{arith}
+use lib.Dec.{eqb, leb, ltb}
 use lib.ListN.{length, length-append}
+use Rattle.std.proofs.shelf.Tests.{cases-lt, lt-ltb, le-ltb, le-leb, lt-leb}
 use Rattle.std.specs.declared.result.Result.the-variants.{Ok, Err}
 use Rattle.events.specs.Event.{Event}
 use Rattle.fields.specs.Cause.{Cause, lineTooLong, refusedBySink}
@@ -83,5 +86,21 @@ too-long t built c e f =
     let q : longer (t .line) c ≡ tooLong = ap (λ v. cond v (goesOn (record { afterCr = false; built = t .line .built ++ c })) tooLong) (ap (λ n. leb n 1024) (length-append (t .line .built) c) ∙ sym f) in
     record {
       text = ap (λ b. record { line = record { afterCr = t .line .afterCr; built = b }; number = t .number; held = t .held }) e ∙ sym (ap (λ u. turned t u .text) q);
+      answer = sym (ap (λ u. fieldTold (turned t u .outcome)) q);
+    }
+
+-- whether one byte more fits
+pub one-fits : (built : List ℕ) (b : ℕ) → ltb (length built) 1024 ≡ leb (length built + length (b ∷ [])) 1024
+one-fits built b = by (cases-lt (length built) 1024)
+  where
+    by : (length built < 1024) ⊎ (1024 ≤ length built) → ltb (length built) 1024 ≡ leb (length built + 1) 1024
+    by (inl h) = lt-ltb (length built) 1024 h ∙ sym (le-leb (length built + 1) 1024 (omega arith))
+    by (inr h) = le-ltb (length built) 1024 h ∙ sym (lt-leb (length built + 1) 1024 (omega arith))
+
+pub joins-line : (t : Text) (built c : List ℕ) → built ≡ t .line .built ++ c → true ≡ leb (length (t .line .built) + length c) 1024 → Turns (turned t (longer (t .line) c)) (record { line = record { afterCr = false; built = built }; number = t .number; held = t .held }) quiet
+joins-line t built c e f =
+    let q : longer (t .line) c ≡ goesOn (record { afterCr = false; built = t .line .built ++ c }) = ap (λ v. cond v (goesOn (record { afterCr = false; built = t .line .built ++ c })) tooLong) (ap (λ n. leb n 1024) (length-append (t .line .built) c) ∙ sym f) in
+    record {
+      text = ap (λ b. record { line = record { afterCr = false; built = b }; number = t .number; held = t .held }) e ∙ sym (ap (λ u. turned t u .text) q);
       answer = sym (ap (λ u. fieldTold (turned t u .outcome)) q);
     }

@@ -1,6 +1,6 @@
 // What a character does to the line that is being built.
 ghost use mathlib.Core.Path.{_≡_};
-ghost use mathlib.Core.List.{[]};
+ghost use mathlib.Core.List.{[], _∷_};
 ghost use Prim.Native.Nat.{_≤_};
 ghost use Rattle.decoder.specs.Code.{bytesOf, charsOf};
 ghost use Rattle.fields.specs.Block.{unread};
@@ -54,6 +54,20 @@ impl Lines {
         }
     }
 
+    // The same for one byte.
+    fn append_one(&mut self, byte: u8) -> Result<(), LineFault>
+        ensures text { λ r. ⌜ textOf (now (self .exit)) ≡ turned (textOf (now (self .entry))) (longer (textOf (now (self .entry)) .line) (byte ∷ [])) .text ⌝ }
+        ensures answer { λ r. ⌜ textAnswer r ≡ fieldTold (turned (textOf (now (self .entry))) (longer (textOf (now (self .entry)) .line) (byte ∷ [])) .outcome) ⌝ }
+    {
+        match self.line.push(byte) {
+            Ok(()) => {
+                self.after_cr = false;
+                Ok(())
+            }
+            Err(Full) => Err(LineFault::Long),
+        }
+    }
+
     // The end of a line, by a CR or not.
     fn end<S: Sink>(&mut self, cr: bool, sink: &mut S) -> Result<bool, LineFault>
         ensures text { λ r. ⌜ textOf (now (self .exit)) ≡ handTurn (S·Sink .refusal) (S·Sink .after) (textOf (now (self .entry))) (S·Sink .state (now (sink .entry))) (ended (record { afterCr = cr; built = [] }) (textOf (now (self .entry)) .line .built)) .held ⌝ }
@@ -84,7 +98,7 @@ impl Lines {
             }
             Character::One(b'\n') => return self.end(false, sink),
             Character::One(b'\r') => return self.end(true, sink),
-            Character::One(a) => self.append(&[a])?,
+            Character::One(a) => self.append_one(a)?,
             Character::Two(a, b) => self.append(&[a, b])?,
             Character::Three(a, b, c) => self.append(&[a, b, c])?,
             Character::Four(a, b, c, d) => self.append(&[a, b, c, d])?,
