@@ -4,3 +4,4 @@ pub mod Whole
 pub mod Related
 pub mod Valid
 pub mod Kept
+pub mod Passes

@@ -4,7 +4,7 @@ ghost use mathlib.Core.Bool.{false};
 ghost use mathlib.Core.List.{[], _∷_};
 ghost use Rattle.machine.specs.Run.{also};
 ghost use Rattle.decoder.specs.Standard.{leadOf, second, lies, following, replacement};
-ghost use Rattle.decoder.specs.Machine.{begun, advance, kept, moved, step, fresh};
+ghost use Rattle.decoder.specs.Machine.{begun, advance, kept, moved, step, passes, fresh};
 ghost use Rattle.decoder.specs.Code.{readingOf, stateOf, maybe, charsOf};
 use crate::character::Character;
 use crate::character::Given;
@@ -151,22 +151,19 @@ impl Decoder {
         }
     }
 
-    // Reads the next byte of the stream, and gives the characters that are then known.
-    pub fn push(&mut self, byte: u8) -> Given
-        ensures state { λ r. ⌜ stateOf (now (self .exit)) ≡ step (stateOf (now (self .entry))) byte .state ⌝ }
-        ensures out { λ r. ⌜ charsOf r ≡ step (stateOf (now (self .entry))) byte .out ⌝ }
+    // Whether `byte` is a character as it stands, and leaves the decoder as it is: so it is with most bytes, and a caller
+    // may pass such a byte on without pushing it.
+    pub fn passes(&self, byte: u8) -> bool
+        ensures { λ r. ⌜ r ≡ passes (stateOf (now (self .entry))) byte ⌝ }
     {
-        // the short way of most bytes, which the compiler can take into the caller
         match self.pending {
-            Pending::Nothing if self.started && width(byte) == 1 => {
-                Given::One(Character::One(byte))
-            }
-            _ => self.advance(byte),
+            Pending::Nothing => self.started && width(byte) == 1,
+            _ => false,
         }
     }
 
-    // The long way of any byte.
-    fn advance(&mut self, byte: u8) -> Given
+    // Reads the next byte of the stream, and gives the characters that are then known.
+    pub fn push(&mut self, byte: u8) -> Given
         ensures state { λ r. ⌜ stateOf (now (self .exit)) ≡ step (stateOf (now (self .entry))) byte .state ⌝ }
         ensures out { λ r. ⌜ charsOf r ≡ step (stateOf (now (self .entry))) byte .out ⌝ }
     {

@@ -1,5 +1,7 @@
 // Reading a stream, byte by byte and piece by piece.
 ghost use mathlib.Core.Path.{_≡_};
+ghost use Rattle.decoder.specs.Machine.{step};
+ghost use Rattle.decoder.specs.Code.{stateOf, charsOf};
 ghost use Rattle.lines.specs.Reader.{fresh, restarted, lastIdOf, retryOf, faultOf, push, reads};
 ghost use Rattle.lines.specs.Code.{readerOf, faultsSaid, byteAnswer, answered, most};
 ghost use Prim.Native.Nat.{_≤_};
@@ -7,7 +9,9 @@ use crate::fault::Fault;
 use crate::reader::Progress;
 use crate::reader::Reader;
 use crate::text::Lines;
+use decoder::Character;
 use decoder::Decoder;
+use decoder::Given;
 use sink::Sink;
 
 impl Reader {
@@ -65,7 +69,7 @@ impl Reader {
             Some(fault) => return Err(fault),
             None => {}
         }
-        let given = self.decoder.push(byte);
+        let given = decode(&mut self.decoder, byte);
         match self.lines.given(given, sink) {
             Ok(kept) => {
                 self.byte = self.byte.saturating_add(1);
@@ -110,5 +114,17 @@ impl Reader {
             kept,
             fault: self.fault,
         }
+    }
+}
+
+// The characters that a byte gives; one that passes as it stands is not pushed, which spares most of the work.
+fn decode(decoder: &mut Decoder, byte: u8) -> Given
+    ensures state { λ r. ⌜ stateOf (now (decoder .exit)) ≡ step (stateOf (now (decoder .entry))) byte .state ⌝ }
+    ensures out { λ r. ⌜ charsOf r ≡ step (stateOf (now (decoder .entry))) byte .out ⌝ }
+{
+    if decoder.passes(byte) {
+        Given::One(Character::One(byte))
+    } else {
+        decoder.push(byte)
     }
 }
