@@ -53,12 +53,12 @@ module _ (xs ys : List ℕ) (n p : ℕ) (fits : n ≤ length xs) (all : (k : ℕ
       elim (cases-order k p) [
         | inl same ↦ omega (arith, read, ap (λ (m : ℕ). getD (inserted row p code) m 0) same, getD-inserted-at row p code 0 (omega arith))
         | inr rest ↦
-          elim rest [
-            | inl below ↦ omega (arith, read, getD-inserted-below row p code 0 k below (omega arith), in-row k (omega arith))
-            | inr above ↦
-              let next : k ≡ k - 1 + 1 = omega arith in
-              omega (arith, read, ap (λ (m : ℕ). getD (inserted row p code) m 0) next, getD-inserted-above row p code 0 (k - 1) (omega arith) (omega arith), in-row (k - 1) (omega arith))
-          ]
+            elim rest [
+              | inl below ↦ omega (arith, read, getD-inserted-below row p code 0 k below (omega arith), in-row k (omega arith))
+              | inr above ↦
+                  let next : k ≡ k - 1 + 1 = omega arith in
+                  omega (arith, read, ap (λ (m : ℕ). getD (inserted row p code) m 0) next, getD-inserted-above row p code 0 (k - 1) (omega arith) (omega arith), in-row (k - 1) (omega arith))
+            ]
       ]
 
   pub lawful-after-remove : p < n → take (n - 1) ys ≡ removed (take n xs) p → (k : ℕ) → k < n - 1 → getD ys k 0 ≤ 63
