@@ -4,7 +4,7 @@ ghost use mathlib.Core.List.{[], List};
 ghost use mathlib.Core.Path.{_≡_};
 ghost use Prim.Native.Nat.{ℕ, _+_, _-_, _<_, _≤_};
 ghost use lib.Dec.{eqb};
-ghost use lib.ListN.{length, take};
+ghost use lib.ListN.{length, getD, take};
 ghost use Rattle.std.specs.shelf.Lists.{inserted, removed};
 ghost use Rattle.sink.specs.Answer.{answer};
 ghost use Rattle.sink.specs.Chain.{insert, remove, edited, refused, chainAfter, chainRefusal};
@@ -58,6 +58,7 @@ impl Chain {
     pub fn codes(&self) -> &[u8]
         ensures codes { λ r. ⌜ now r ≡ codesOf (now (self .entry)) ⌝ }
         ensures few { λ r. ⌜ length (now r) ≤ 8 ⌝ }
+        ensures lawful { λ r. ⌜ ((k : ℕ) → k < length (now r) → getD (now r) k 0 ≤ 63) ⌝ }
     {
         &self.places[0..self.count]
     }
