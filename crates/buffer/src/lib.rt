@@ -77,10 +77,12 @@ impl<const N: usize> Buffer<N> {
         if bytes.len() > N - self.fill {
             return Err(Full);
         }
+        let mut fill = self.fill;
         for byte in bytes {
-            self.store.put(self.fill, *byte);
-            self.fill += 1;
+            self.store.put(fill, *byte);
+            fill += 1;
         }
+        self.fill = fill;
         Ok(())
     }
 

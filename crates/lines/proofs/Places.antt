@@ -60,36 +60,33 @@ module _ {X : Type 0} (refusal : X → Event → ℕ) (after : X → Event → X
   abbrev pub run : List Char → Ran X
   run gs = handChars refusal after (r .text) x gs
 
-  module _ (d : decoder.State) (gs : List Char) (t : Text) (y : X) (ed : d ≡ decoder.step (r .decoder) b .state) (eg : gs ≡ decoder.step (r .decoder) b .out) (et : t ≡ run gs .text) (ey : y ≡ run gs .sink) (few : run gs .kept ≤ most (run gs .stop)) where
-    all : {Y : Type 0} (f : Ran X → Y) → f (run gs) ≡ f (run (decoder.step (r .decoder) b .out))
-    all f = ap (λ cs. f (run cs)) eg
+  -- the characters that the byte gives
+  abbrev pub given : List Char
+  given = decoder.step (r .decoder) b .out
 
-    same-few : run (decoder.step (r .decoder) b .out) .kept ≤ most (run (decoder.step (r .decoder) b .out) .stop)
-    same-few = subst (λ cs. run cs .kept ≤ most (run cs .stop)) eg few
-
-    pub goes-on : (n : ℕ) (k : Bool) → n ≡ counted (r .byte) → lineAnswer (Ok k) ≡ answered (run gs .kept) (run gs .stop) → Pushes (push refusal after (reading r) x b) (reading (record { decoder = d; text = t; byte = n })) y (byteAnswer (Ok k))
+  module _ (d : decoder.State) (t : Text) (y : X) (ed : d ≡ decoder.step (r .decoder) b .state) (et : t ≡ run given .text) (ey : y ≡ run given .sink) (few : run given .kept ≤ most (run given .stop)) where
+    pub goes-on : (n : ℕ) (k : Bool) → n ≡ counted (r .byte) → lineAnswer (Ok k) ≡ answered (run given .kept) (run given .stop) → Pushes (push refusal after (reading r) x b) (reading (record { decoder = d; text = t; byte = n })) y (byteAnswer (Ok k))
     goes-on n k en ea =
-        let h = run (decoder.step (r .decoder) b .out) in
-        let p = placed-well r (decoder.step (r .decoder) b .state) h (h .stop) k (ea ∙ all (λ g. answered (g .kept) (g .stop))) same-few in
+        let h = run given in
+        let p = placed-well r (decoder.step (r .decoder) b .state) h (h .stop) k ea few in
         record {
           reader =
               ap (λ s. reading (record { decoder = s; text = t; byte = n })) ed
-              ∙ ap (λ s. reading (record { decoder = decoder.step (r .decoder) b .state; text = s; byte = n })) (et ∙ all (λ g. g .text))
+              ∙ ap (λ s. reading (record { decoder = decoder.step (r .decoder) b .state; text = s; byte = n })) et
               ∙ ap (λ s. reading (record { decoder = decoder.step (r .decoder) b .state; text = h .text; byte = s })) en
               ∙ p .reader;
-          sink = ey ∙ all (λ g. g .sink) ∙ p .sink;
+          sink = ey ∙ p .sink;
           answer = p .answer;
           few = p .few;
         }
 
-    pub stops : (c : Cause) → faulted c ≡ answered (run gs .kept) (run gs .stop) → (let f : Fault = record { cause = c; line = t .number; byte = r .byte } in Pushes (push refusal after (reading r) x b) (stopped (t .held .lastId) (t .held .retry) f) y (faulted f))
+    pub stops : (c : Cause) → faulted c ≡ answered (run given .kept) (run given .stop) → (let f : Fault = record { cause = c; line = t .number; byte = r .byte } in Pushes (push refusal after (reading r) x b) (stopped (t .held .lastId) (t .held .retry) f) y (faulted f))
     stops c ea =
-        let h = run (decoder.step (r .decoder) b .out) in
-        let p = placed-stopped r (decoder.step (r .decoder) b .state) h (h .stop) c (ea ∙ all (λ g. answered (g .kept) (g .stop))) same-few in
-        let q : t ≡ h .text = et ∙ all (λ g. g .text) in
+        let h = run given in
+        let p = placed-stopped r (decoder.step (r .decoder) b .state) h (h .stop) c ea few in
         record {
-          reader = ap (λ (s : Text). stopped (s .held .lastId) (s .held .retry) (record { cause = c; line = s .number; byte = r .byte })) q ∙ p .reader;
-          sink = ey ∙ all (λ g. g .sink) ∙ p .sink;
-          answer = ap (λ (s : Text). faulted (record { cause = c; line = s .number; byte = r .byte })) q ∙ p .answer;
+          reader = ap (λ (s : Text). stopped (s .held .lastId) (s .held .retry) (record { cause = c; line = s .number; byte = r .byte })) et ∙ p .reader;
+          sink = ey ∙ p .sink;
+          answer = ap (λ (s : Text). faulted (record { cause = c; line = s .number; byte = r .byte })) et ∙ p .answer;
           few = p .few;
         }

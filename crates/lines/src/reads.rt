@@ -1,17 +1,18 @@
 // Reading a stream, byte by byte and piece by piece.
 ghost use mathlib.Core.Path.{_≡_};
 ghost use Rattle.decoder.specs.Machine.{step};
-ghost use Rattle.decoder.specs.Code.{stateOf, charsOf};
+ghost use Rattle.decoder.specs.Code.{stateOf};
+ghost use Rattle.lines.specs.Text.{handChars};
 ghost use Rattle.lines.specs.Reader.{fresh, restarted, lastIdOf, retryOf, faultOf, push, reads};
-ghost use Rattle.lines.specs.Code.{readerOf, faultsSaid, byteAnswer, answered, most};
+ghost use Rattle.lines.specs.Code.{textOf, readerOf, lineAnswer, faultsSaid, byteAnswer, answered, most};
 ghost use Prim.Native.Nat.{_≤_};
 use crate::fault::Fault;
+use crate::fault::LineFault;
 use crate::reader::Progress;
 use crate::reader::Reader;
 use crate::text::Lines;
 use decoder::Character;
 use decoder::Decoder;
-use decoder::Given;
 use sink::Sink;
 
 impl Reader {
@@ -69,8 +70,7 @@ impl Reader {
             Some(fault) => return Err(fault),
             None => {}
         }
-        let given = decode(&mut self.decoder, byte);
-        match self.lines.given(given, sink) {
+        match take_in(&mut self.decoder, &mut self.lines, byte, sink) {
             Ok(kept) => {
                 self.byte = self.byte.saturating_add(1);
                 Ok(kept)
@@ -117,14 +117,22 @@ impl Reader {
     }
 }
 
-// The characters that a byte gives; one that passes as it stands is not pushed, which spares most of the work.
-fn decode(decoder: &mut Decoder, byte: u8) -> Given
-    ensures state { λ r. ⌜ stateOf (now (decoder .exit)) ≡ step (stateOf (now (decoder .entry))) byte .state ⌝ }
-    ensures out { λ r. ⌜ charsOf r ≡ step (stateOf (now (decoder .entry))) byte .out ⌝ }
+// What a byte does to the text. One that passes as it stands is not pushed, which spares most of the work.
+fn take_in<S: Sink>(
+    decoder: &mut Decoder,
+    lines: &mut Lines,
+    byte: u8,
+    sink: &mut S,
+) -> Result<bool, LineFault>
+    ensures decoder { λ r. ⌜ stateOf (now (decoder .exit)) ≡ step (stateOf (now (decoder .entry))) byte .state ⌝ }
+    ensures text { λ r. ⌜ textOf (now (lines .exit)) ≡ handChars (S·Sink .refusal) (S·Sink .after) (textOf (now (lines .entry))) (S·Sink .state (now (sink .entry))) (step (stateOf (now (decoder .entry))) byte .out) .text ⌝ }
+    ensures sink { λ r. ⌜ S·Sink .state (now (sink .exit)) ≡ handChars (S·Sink .refusal) (S·Sink .after) (textOf (now (lines .entry))) (S·Sink .state (now (sink .entry))) (step (stateOf (now (decoder .entry))) byte .out) .sink ⌝ }
+    ensures answer { λ r. ⌜ lineAnswer r ≡ answered (handChars (S·Sink .refusal) (S·Sink .after) (textOf (now (lines .entry))) (S·Sink .state (now (sink .entry))) (step (stateOf (now (decoder .entry))) byte .out) .kept) (handChars (S·Sink .refusal) (S·Sink .after) (textOf (now (lines .entry))) (S·Sink .state (now (sink .entry))) (step (stateOf (now (decoder .entry))) byte .out) .stop) ⌝ }
+    ensures few { λ r. ⌜ handChars (S·Sink .refusal) (S·Sink .after) (textOf (now (lines .entry))) (S·Sink .state (now (sink .entry))) (step (stateOf (now (decoder .entry))) byte .out) .kept ≤ most (handChars (S·Sink .refusal) (S·Sink .after) (textOf (now (lines .entry))) (S·Sink .state (now (sink .entry))) (step (stateOf (now (decoder .entry))) byte .out) .stop) ⌝ }
 {
     if decoder.passes(byte) {
-        Given::One(Character::One(byte))
-    } else {
-        decoder.push(byte)
+        return lines.character(Character::One(byte), sink);
     }
+    let given = decoder.push(byte);
+    lines.given(given, sink)
 }

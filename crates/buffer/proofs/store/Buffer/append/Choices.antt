@@ -7,4 +7,4 @@ use Rattle.buffer.proofs.store.Buffer.append.Given as given
 
 -- the bytes so far stand behind what was there
 abbrev pub Inv-loop-byte : given.InvT-loop-byte
-Inv-loop-byte g l = (l .self .fill ≡ l .entry .self .fill + l .byte-index) × (bytesOf (l .self) ≡ bytesOf (l .entry .self) ++ take (l .byte-index) (l .bytes))
+Inv-loop-byte g l = (l .self .fill ≡ l .entry .self .fill) × (l .fill ≡ l .entry .self .fill + l .byte-index) × (take (l .fill) (l .self .store .bytes) ≡ bytesOf (l .entry .self) ++ take (l .byte-index) (l .bytes))
