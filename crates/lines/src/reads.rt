@@ -11,7 +11,6 @@ use crate::fault::LineFault;
 use crate::reader::Progress;
 use crate::reader::Reader;
 use crate::text::Lines;
-use decoder::Character;
 use decoder::Decoder;
 use sink::Sink;
 
@@ -131,7 +130,7 @@ fn take_in<S: Sink>(
     ensures few { λ r. ⌜ handChars (S·Sink .refusal) (S·Sink .after) (textOf (now (lines .entry))) (S·Sink .state (now (sink .entry))) (step (stateOf (now (decoder .entry))) byte .out) .kept ≤ most (handChars (S·Sink .refusal) (S·Sink .after) (textOf (now (lines .entry))) (S·Sink .state (now (sink .entry))) (step (stateOf (now (decoder .entry))) byte .out) .stop) ⌝ }
 {
     if decoder.passes(byte) {
-        return lines.character(Character::One(byte), sink);
+        return lines.byte(byte, sink);
     }
     let given = decoder.push(byte);
     lines.given(given, sink)

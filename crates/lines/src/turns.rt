@@ -81,24 +81,34 @@ impl Lines {
         Ok(kept)
     }
 
+    // A character of one byte. Answers whether it kept an event.
+    pub(crate) fn byte<S: Sink>(&mut self, byte: u8, sink: &mut S) -> Result<bool, LineFault>
+        ensures text { λ r. ⌜ textOf (now (self .exit)) ≡ handChar (S·Sink .refusal) (S·Sink .after) (textOf (now (self .entry))) (S·Sink .state (now (sink .entry))) (byte ∷ []) .held ⌝ }
+        ensures sink { λ r. ⌜ S·Sink .state (now (sink .exit)) ≡ handChar (S·Sink .refusal) (S·Sink .after) (textOf (now (self .entry))) (S·Sink .state (now (sink .entry))) (byte ∷ []) .sink ⌝ }
+        ensures answer { λ r. ⌜ lineAnswer r ≡ handChar (S·Sink .refusal) (S·Sink .after) (textOf (now (self .entry))) (S·Sink .state (now (sink .entry))) (byte ∷ []) .answer ⌝ }
+    {
+        match byte {
+            b'\n' if self.after_cr => {
+                self.after_cr = false;
+                Ok(false)
+            }
+            b'\n' => self.end(false, sink),
+            b'\r' => self.end(true, sink),
+            _ => {
+                self.append_one(byte)?;
+                Ok(false)
+            }
+        }
+    }
+
     // A character of the text. Answers whether it kept an event.
-    pub(crate) fn character<S: Sink>(
-        &mut self,
-        c: Character,
-        sink: &mut S,
-    ) -> Result<bool, LineFault>
+    fn character<S: Sink>(&mut self, c: Character, sink: &mut S) -> Result<bool, LineFault>
         ensures text { λ r. ⌜ textOf (now (self .exit)) ≡ handChar (S·Sink .refusal) (S·Sink .after) (textOf (now (self .entry))) (S·Sink .state (now (sink .entry))) (bytesOf c) .held ⌝ }
         ensures sink { λ r. ⌜ S·Sink .state (now (sink .exit)) ≡ handChar (S·Sink .refusal) (S·Sink .after) (textOf (now (self .entry))) (S·Sink .state (now (sink .entry))) (bytesOf c) .sink ⌝ }
         ensures answer { λ r. ⌜ lineAnswer r ≡ handChar (S·Sink .refusal) (S·Sink .after) (textOf (now (self .entry))) (S·Sink .state (now (sink .entry))) (bytesOf c) .answer ⌝ }
     {
         match c {
-            Character::One(b'\n') if self.after_cr => {
-                self.after_cr = false;
-                return Ok(false);
-            }
-            Character::One(b'\n') => return self.end(false, sink),
-            Character::One(b'\r') => return self.end(true, sink),
-            Character::One(a) => self.append_one(a)?,
+            Character::One(a) => return self.byte(a, sink),
             Character::Two(a, b) => self.append(&[a, b])?,
             Character::Three(a, b, c) => self.append(&[a, b, c])?,
             Character::Four(a, b, c, d) => self.append(&[a, b, c, d])?,
