@@ -7,7 +7,10 @@ pub(crate) enum Command {
     Help,
     Read(Option<usize>),
     Count(Option<usize>),
-    Wrong(&'static str),
+    // a number that is none of those that a piece can have
+    BadPiece,
+    // words that are no command
+    Unknown(&'static str),
 }
 
 pub(crate) fn usage() -> &'static str {
@@ -25,10 +28,10 @@ pub(crate) fn asked(words: &[String]) -> Command {
         [] | [_] => Command::Help,
         [_, word] => one_word(word.as_bytes()),
         [_, word, number] => match capped(number.as_bytes(), 4097) {
-            Some(0) | Some(4097) | None => Command::Wrong("a piece has 1 to 4096 bytes"),
+            Some(0) | Some(4097) | None => Command::BadPiece,
             Some(piece) => with_piece(word.as_bytes(), Some(piece as usize)),
         },
-        _ => Command::Wrong("too many words"),
+        _ => Command::Unknown("too many words"),
     }
 }
 
@@ -43,7 +46,7 @@ fn with_piece(word: &[u8], piece: Option<usize>) -> Command {
     match word {
         b"read" => Command::Read(piece),
         b"count" => Command::Count(piece),
-        b"help" => Command::Wrong("too many words"),
-        _ => Command::Wrong("unknown word"),
+        b"help" => Command::Unknown("too many words"),
+        _ => Command::Unknown("unknown word"),
     }
 }

@@ -25,7 +25,11 @@ fn main(rt: LibcRuntime) -> Result<(), AnyError> {
         }
         Command::Read(piece) => read(&rt, piece),
         Command::Count(piece) => count(&rt, piece),
-        Command::Wrong(why) => {
+        Command::BadPiece => {
+            eprintln!(rt, "error: a piece has 1 to 4096 bytes")?;
+            Err("a piece has 1 to 4096 bytes".into())
+        }
+        Command::Unknown(why) => {
             eprintln!(rt, "error: {why}")?;
             rt.stderr().print(usage())?;
             Err(why.into())
