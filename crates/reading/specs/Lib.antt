@@ -1,0 +1,5 @@
+pub mod Lines
+pub mod Blocks
+pub mod Standard
+pub mod Limits
+pub mod Outcome
