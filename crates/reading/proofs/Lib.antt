@@ -1,0 +1,6 @@
+pub mod Lists
+pub mod Splits
+pub mod Sayings
+pub mod Blanks
+pub mod Bounds
+pub mod Steps
