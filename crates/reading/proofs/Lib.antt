@@ -4,3 +4,4 @@ pub mod Sayings
 pub mod Blanks
 pub mod Bounds
 pub mod Steps
+pub mod Ended

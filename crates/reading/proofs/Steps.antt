@@ -64,7 +64,7 @@ module _ {X : Type 0} (refusal : X → Event → ℕ) (after : X → Event → X
     short : (any long ls ≡ false) × (long (unfinished cs) ≡ false)
     short = first-parts long ls (unfinished cs) (f .line)
 
-    fits-built : length (lineAfter cs .built) ≤ 1024
+    pub fits-built : length (lineAfter cs .built) ≤ 1024
     fits-built = let h = ltb-false 1024 (length (unfinished cs)) (short .1) in let e = ap length (built-is-unfinished cs) in omega arith
 
     -- the line goes on
@@ -95,3 +95,43 @@ module _ {X : Type 0} (refusal : X → Event → ℕ) (after : X → Event → X
 
       pub too-long : 1024 < length (l′ .built) → longLine cs′ ≡ true
       too-long h = ap (λ n. any long (n ++ unfinished cs′ ∷ [])) same-lines ∙ ap (λ u. any long (ls ++ u ∷ [])) now-rest ∙ push-true long ls (l′ .built) (lt-ltb 1024 (length (l′ .built)) h)
+
+    -- the line ends
+    module _ (l′ : Line) (s : blocks.Line) (e : split (lineAfter cs) c ≡ record { state = l′; out = s ∷ [] }) (es : s ≡ lineAfter cs .built) (el : l′ .built ≡ []) where
+      pub more-lines : lines cs′ ≡ ls ++ s ∷ []
+      more-lines = grows cs c .lines ∙ ap (λ t. ls ++ t .out) e
+
+      short-line : long s ≡ false
+      short-line = let k = ap length es in let h = fits-built in le-ltb 1024 (length s) (omega arith)
+
+      pub line-fits : longLine cs′ ≡ false
+      line-fits =
+          ap (λ n. any long (n ++ unfinished cs′ ∷ [])) more-lines
+          ∙ ap (λ u. any long ((ls ++ s ∷ []) ++ u ∷ [])) (grows cs c .rest ∙ ap (λ t. t .state .built) e ∙ el)
+          ∙ push-false long (ls ++ s ∷ []) [] (push-false long ls s (short .0) short-line) refl
+
+      abbrev pub after-it : Held → Text
+      after-it h = record { line = l′; number = counted (capped (1 + length ls)); held = h }
+
+      counts : counted (capped (1 + length ls)) ≡ capped (1 + length (ls ++ s ∷ []))
+      counts = let k = length-append ls (s ∷ []) in omega arith
+
+      pub text-with : (h : Held) → h ≡ heldAfter w (ls ++ s ∷ []) → after-it h ≡ textAfter cs′
+      text-with h eh =
+          ap (λ l. record { line = l; number = counted (capped (1 + length ls)); held = h }) (sym (grows cs c .line ∙ ap (λ t. t .state) e))
+          ∙ ap (λ n. record { line = lineAfter cs′; number = n; held = h }) counts
+          ∙ ap (λ k. record { line = lineAfter cs′; number = capped (1 + length (ls ++ s ∷ [])); held = k }) eh
+          ∙ ap (λ n. record { line = lineAfter cs′; number = capped (1 + length n); held = heldAfter w n }) (sym more-lines)
+
+      -- a fault that leaves the text as h, whose last event ID and time are those before
+      pub halts : (d : Cause) (h : Held) → overText refusal after x cs′ ≡ Some d → h .lastId ≡ heldAfter w ls .lastId → h .retry ≡ heldAfter w ls .retry → Halts cs c (record { line = lineAfter cs; number = capped (1 + length ls); held = h }) (sinkAfter cs) d
+      halts d h o i r = record { over = o; sink = refl; lastId = i; retry = r; number = refl }
+
+      pub ids-fit : overId (fieldOf s) ≡ false → longId (lines cs′) ≡ false
+      ids-fit a = ap longId more-lines ∙ push-false (λ (l : blocks.Line). overId (fieldOf l)) ls s (f .id) a
+
+      pub types-fit : overType (fieldOf s) ≡ false → longType (lines cs′) ≡ false
+      types-fit a = ap longType more-lines ∙ push-false (λ (l : blocks.Line). overType (fieldOf l)) ls s (f .type) a
+
+      abbrev pub taken : Said → Handed Text X
+      taken q = hand refusal after (textAfter cs) (refused (textAfter cs)) (after-it (q .held)) (sinkAfter cs) (q .outcome)
