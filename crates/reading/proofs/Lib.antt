@@ -5,3 +5,4 @@ pub mod Blanks
 pub mod Bounds
 pub mod Steps
 pub mod Ended
+pub mod Bytes

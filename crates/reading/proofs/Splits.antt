@@ -18,7 +18,7 @@ abbrev pub fed : Bool → List ℕ → Step Line (List ℕ)
 fed true built = record { state = record { afterCr = false; built = built }; out = [] }
 fed false built = record { state = noLine; out = built ∷ [] }
 
-abbrev other : Char → List ℕ → Bool → Step Line (List ℕ)
+abbrev pub other : Char → List ℕ → Bool → Step Line (List ℕ)
 other c built v = cond v (record { state = record { afterCr = true; built = [] }; out = built ∷ [] }) (record { state = record { afterCr = false; built = built ++ c }; out = [] })
 
 abbrev pub split : Line → Char → Step Line (List ℕ)
