@@ -6,3 +6,4 @@ pub mod Bounds
 pub mod Steps
 pub mod Ended
 pub mod Bytes
+pub mod Whole
