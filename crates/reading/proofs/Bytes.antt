@@ -88,12 +88,16 @@ long-stays cs c h =
   where
     ls : List blocks.Line
     ls = lines cs
+
     built : List ℕ
     built = lineAfter cs .built
+
     is-long : long (lineAfter cs .built) ≡ true
     is-long = let e = ap length (built-is-unfinished cs) in lt-ltb 1024 (length (lineAfter cs .built)) (omega arith)
+
     longer : long (lineAfter cs .built ++ c) ≡ true
     longer = let e = ap length (built-is-unfinished cs) in let k = length-append (lineAfter cs .built) c in lt-ltb 1024 (length (lineAfter cs .built ++ c)) (omega arith)
+
     by : (v a w : Bool) → (let t = cond v (fed a (lineAfter cs .built)) (other c (lineAfter cs .built) w) in any long ((lines cs ++ t .out) ++ t .state .built ∷ []) ≡ true)
     by true true w = push-true long (lines cs ++ []) (lineAfter cs .built) is-long
     by true false w = still-true long (lines cs ++ lineAfter cs .built ∷ []) ([] ∷ []) (push-true long (lines cs) (lineAfter cs .built) is-long)

@@ -132,6 +132,7 @@ module _ {X : Type 0} (refusal : X → Event → ℕ) (after : X → Event → X
       where
         many : refusedIn refusal after x (eventsOf ls ++ d ∷ []) ≡ refusal y d
         many = refused-push refusal after x (eventsOf ls) d (f .sink)
+
         by : (v : Bool) → eqb (refusal y d) 0 ≡ v → (let h = cond {A = Handed Text X} v (record { held = record { line = l′; number = Rattle.lines.specs.Text.counted (capped (1 + length ls)); held = moved hb }; sink = after y d; answer = kept }) (record { held = refused (textAfter refusal after w x cs); sink = y; answer = faulted (refusedBySink (refusal y d)) }) in Stepped refusal after w x cs c h (h .answer))
         by true k = moves (after y d) (eventsOf ls ++ d ∷ []) q (sym (through-push refusal after x (eventsOf ls) d)) (many ∙ eqb-true (refusal y d) 0 k)
         by false k =

@@ -78,6 +78,7 @@ module _ (ds ts : List (List ℕ)) (i : List ℕ) (is : List (List ℕ)) (l : Li
       by : (b : Bool) → lastOr i (is ++ cond b [] (v ∷ [])) ≡ cond b (lastOr i is) v
       by true = ap (lastOr i) (append-nil is)
       by false = last-append i is (v ∷ [])
+
       kept : lastOr i (is ++ cond (hasNul v) [] (v ∷ [])) ≡ cond (hasNul v) (lastOr i is) v
       kept = by (hasNul v)
   says-told (retryField v) e = subst (Says (retryField v)) (simp (append-nil, by (cappedNumber 3600000 v))) (fine refl refl (same-data e))

@@ -70,6 +70,7 @@ agree (c ∷ cs) true built = record { out = by-out (agree cs) (isLf c) refl; re
     by-out : Agree cs → (v : Bool) → isLf c ≡ v → outs cs (cond v (fed true built) (other c built (isCr c))) ≡ linesAfter (cond v 1 0) built (c ∷ cs)
     by-out ih true e = ih false built .out
     by-out ih false e = ap (λ v. outs cs (cond v (fed false built) (other c built (isCr c)))) (sym e) ∙ plain-out c cs built ih
+
     by-rest : Agree cs → (v : Bool) → isLf c ≡ v → left cs (cond v (fed true built) (other c built (isCr c))) ≡ restAfter (cond v 1 0) built (c ∷ cs)
     by-rest ih true e = ih false built .rest
     by-rest ih false e = ap (λ v. left cs (cond v (fed false built) (other c built (isCr c)))) (sym e) ∙ plain-rest c cs built ih

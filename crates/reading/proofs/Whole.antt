@@ -140,6 +140,7 @@ module _ {X : Type 0} (refusal : X → Event → ℕ) (after : X → Event → X
   pub reads-on : (s t : List ℕ) (r r′ : Reader) (y y′ : X) → r′ ≡ reads refusal after r y t .reader → y′ ≡ reads refusal after r y t .sink → HasRead refusal after w x s r y → HasRead refusal after w x (s ++ t) r′ y′
   reads-on s t r r′ y y′ er ey h =
       let start = restarted (w .lastId) (w .retry) in
-      let q = in-turn s t start x in
-      (er ∙ ap (λ a. reads refusal after a y t .reader) (h .0) ∙ ap (λ a. reads refusal after (reads refusal after start x s .reader) a t .reader) (h .1) ∙ sym (q .0),
-       ey ∙ ap (λ a. reads refusal after a y t .sink) (h .0) ∙ ap (λ a. reads refusal after (reads refusal after start x s .reader) a t .sink) (h .1) ∙ sym (q .1))
+      let q = in-turn s t start x in (
+        er ∙ ap (λ a. reads refusal after a y t .reader) (h .0) ∙ ap (λ a. reads refusal after (reads refusal after start x s .reader) a t .reader) (h .1) ∙ sym (q .0),
+        ey ∙ ap (λ a. reads refusal after a y t .sink) (h .0) ∙ ap (λ a. reads refusal after (reads refusal after start x s .reader) a t .sink) (h .1) ∙ sym (q .1),
+      )

@@ -1,6 +1,5 @@
 // Reading as the standard has it: what the reader makes of a whole stream, in whatever pieces it comes.
-ghost use Rattle.reading.specs.Outcome.{Outcome};
+mod pieces;
 
-fn trial() -> u8 {
-    0
-}
+pub use pieces::read_on;
+pub use pieces::read_pieces;
