@@ -4,6 +4,7 @@ ghost use lib.ListN.{length};
 ghost use Rattle.std.specs.Vec.{made};
 use crate::output::Output;
 use lines::Reader;
+use reading::read_on;
 use std::error::AnyError;
 use std::io;
 use std::io::Read;
@@ -43,7 +44,7 @@ fn hand_on<S: Output>(
     sink: &mut S,
 ) -> io::Result<()> {
     for piece in part.chunks(size.max(1)) {
-        let _ = reader.read(piece, sink);
+        let _ = read_on(reader, piece, sink);
         sink.show(rt)?;
     }
     Ok(())

@@ -7,3 +7,5 @@ pub mod Steps
 pub mod Ended
 pub mod Bytes
 pub mod Whole
+pub mod Drops
+pub mod Once

@@ -3,3 +3,4 @@ pub mod Blocks
 pub mod Standard
 pub mod Limits
 pub mod Outcome
+pub mod Laws
