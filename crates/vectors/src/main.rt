@@ -54,16 +54,22 @@ mod tests {
     use std::error::AnyError;
     use std::test::*;
 
-    // Whether a case with this end is met, in pieces of two bytes.
+    // A case with every escape, but for the end of what is expected.
+    const CASE: &str = "# a comment
+
+case a
+stream \"id: 1\\ndata: \\\"\\\\\\x41\"
+repeat 2 \"\\r\\n\"
+event \"1\" \"message\" \"\\\"\\\\A\"
+last \"1\"
+";
+
+    // Whether the case with this line at its end is met, in pieces of two bytes.
     fn met(heap: Global, end: &str) -> Result<bool, AnyError> {
         let mut cases = Vec::new(heap);
-        take_line(heap, &mut cases, "# a comment, then a blank line")?;
-        take_line(heap, &mut cases, "")?;
-        take_line(heap, &mut cases, "case with every escape")?;
-        take_line(heap, &mut cases, "stream \"id: 1\\ndata: \\\"\\\\\\x41\"")?;
-        take_line(heap, &mut cases, "repeat 2 \"\\r\\n\"")?;
-        take_line(heap, &mut cases, "event \"1\" \"message\" \"\\\"\\\\A\"")?;
-        take_line(heap, &mut cases, "last \"1\"")?;
+        for line in CASE.lines() {
+            take_line(heap, &mut cases, line)?;
+        }
         take_line(heap, &mut cases, end)?;
         match cases.first() {
             Some(case) => Ok(meets(heap, case, 2)?),
