@@ -8,6 +8,8 @@ mod refusal;
 
 pub use entry::Entry;
 pub use refusal::Refusal;
+pub use refusal::RefusalDebug;
+pub use refusal::RefusalPartialEq;
 
 // A finished event: the id text, the type and the data, each as bytes.
 #[derive(Clone, Copy)]

@@ -2,7 +2,7 @@
 ghost use mathlib.Core.Path.{_≡_};
 ghost use mathlib.Core.List.{[], _∷_, _++_};
 ghost use mathlib.Core.Bool.{cond};
-ghost use Prim.Native.Nat.{_<_, _-_, min};
+ghost use Prim.Native.Nat.{_<_, _≤_, _-_, min};
 ghost use lib.Dec.{eqb, ltb};
 ghost use lib.ListN.{length, take, drop};
 ghost use Rattle.std.specs.Finite.{nth};
@@ -46,9 +46,10 @@ impl<'a, T: Copy> Queue<'a, T> {
         }
     }
 
-    // How many items it holds.
+    // How many items it holds, never more than it can.
     pub fn len(&self) -> usize
-        ensures { λ r. ⌜ r ≡ length (items (now (self .entry))) ⌝ }
+        ensures count { λ r. ⌜ r ≡ length (items (now (self .entry))) ⌝ }
+        ensures within { λ r. ⌜ r ≤ capacityOf (now (self .entry)) ⌝ }
     {
         self.len.min(self.mem.len())
     }
