@@ -6,14 +6,15 @@ use mathlib.Core.Path.{_≡_, refl, sym, ap, ap₂, _∙_}
 use Prim.Native.Nat.{ℕ, suc, _+_, _<_, _≤_}
 use native.Mathlib.Numerals.{one-add}
 use native.Mathlib.Omega.{arith}
-use lib.Dec.{eqb, leb}
+use lib.Dec.{eqb}
 use lib.ListN.{length, take, drop, getD}
 use Rattle.std.proofs.shelf.Lists.{append-assoc, drop-all, drop-at, drop-more, length-append, take-append-drop, take-at}
 use Rattle.std.proofs.shelf.Tests.{and-parts, cases-bool, cases-lt, eqb-true}
 use Rattle.std.proofs.shelf.Ways.{tells}
 use Rattle.std.specs.declared.option.Option.{Option}
 use Rattle.std.specs.declared.option.Option.the-variants.{Some, None}
-use Rattle.sink.specs.Numeral.{isDigit, allDigits, plain, value, numeral}
+use Rattle.decimal.specs.Decimal.{digit, allDigits, value}
+use Rattle.sink.specs.Numeral.{plain, numeral}
 use Rattle.sink.specs.Chain.{Edit, insert, insertOf, insertion, toSpace}
 
 chosen : (v : Bool) (m n : ℕ) → cond v (Some m) None ≡ Some n → v ≡ true
@@ -26,8 +27,8 @@ number-has-digits s n e = and-parts (plain s) (allDigits s) (chosen (plain s && 
 space-after-digits : (a b : List ℕ) → allDigits a ≡ true → toSpace (a ++ 32 ∷ b) ≡ length a
 space-after-digits [] b e = refl
 space-after-digits (x ∷ a) b e =
-    let both = and-parts (isDigit x) (allDigits a) e in
-    let digit = both .0 in
+    let both = and-parts (digit x) (allDigits a) e in
+    let is-digit = both .0 in
     let other-byte : eqb x 32 ≡ false = grind (arith, tells) in
     ap (λ (v : Bool). cond (not v) (1 + toSpace (a ++ 32 ∷ b)) 0) other-byte ∙ omega (arith, space-after-digits a b (both .1))
 

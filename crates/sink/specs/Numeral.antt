@@ -2,29 +2,18 @@
 use mathlib.Core.Bool.{Bool, true, false, not, _&&_, cond}
 use mathlib.Core.List.{List, [], _∷_}
 use mathlib.Core.Path.{_≡_, refl}
-use Prim.Native.Nat.{ℕ, _+_, _-_, _*_}
+use Prim.Native.Nat.{ℕ}
 use lib.Chars.{codes}
-use lib.Dec.{eqb, leb}
-use Rattle.std.specs.Iters.{folded}
+use lib.Dec.{eqb}
 use Rattle.std.specs.declared.option.Option.{Option}
 use Rattle.std.specs.declared.option.Option.the-variants.{Some, None}
-
-abbrev pub isDigit : ℕ → Bool
-isDigit b = leb 48 b && leb b 57
-
-abbrev pub allDigits : List ℕ → Bool
-allDigits [] = true
-allDigits (b ∷ s) = isDigit b && allDigits s
+use Rattle.decimal.specs.Decimal.{allDigits, value}
 
 -- something stands there, and a zero stands first only where it stands alone
 abbrev pub plain : List ℕ → Bool
 plain [] = false
 plain (b ∷ []) = true
 plain (b ∷ c ∷ s) = not (eqb b 48)
-
--- what digits mean, the first the highest
-abbrev pub value : List ℕ → ℕ
-value s = folded (λ n b. 10 * n + (b - 48)) 0 s
 
 abbrev pub numeral : List ℕ → Option ℕ
 numeral s = cond (plain s && allDigits s) (Some (value s)) None

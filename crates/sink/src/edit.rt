@@ -1,16 +1,14 @@
 // What an event asks of a chain, read from its type and its data.
-ghost use mathlib.Core.Bool.{cond};
 ghost use mathlib.Core.Path.{_≡_};
 ghost use Rattle.std.specs.Options.{mapped};
-ghost use Rattle.std.specs.declared.option.Option.the-variants.{Some, None};
 ghost use Rattle.events.specs.Event.{eventOf};
-ghost use Rattle.sink.specs.Numeral.{allDigits, value, numeral};
+ghost use Rattle.sink.specs.Numeral.{numeral};
 ghost use Rattle.sink.specs.Chain.{toSpace, insertion, removal, editOf};
 ghost use Rattle.sink.specs.Capped.{cap64, capped};
 use events::Event;
 
 // Past every place and every code, so that a larger number need not be told from it.
-const PAST_ALL: usize = 64;
+const PAST_ALL: u32 = 64;
 
 // An edit of the row of codes.
 #[derive(Clone, Copy)]
@@ -20,28 +18,16 @@ pub(crate) enum Edit {
     Other,
 }
 
-// The value of digits, unless another byte stands among them.
-fn digits(text: &[u8]) -> Option<usize>
-    ensures { λ r. ⌜ r ≡ cond (allDigits (now (text .entry))) (Some (cap64 (value (now (text .entry))))) None ⌝ }
-{
-    let mut sum = 0;
-    for byte in text {
-        let byte = *byte;
-        if byte < b'0' || byte > b'9' {
-            return None;
-        }
-        sum = (10 * sum + (byte - b'0') as usize).min(PAST_ALL);
-    }
-    Some(sum)
-}
-
 // The number that a text is: digits without a zero before others.
 fn number(text: &[u8]) -> Option<usize>
     ensures { λ r. ⌜ r ≡ mapped cap64 (numeral (now (text .entry))) ⌝ }
 {
     match text {
-        [] | [b'0', _, ..] => None,
-        _ => digits(text),
+        [b'0', _, ..] => None,
+        _ => match decimal::capped(text, PAST_ALL) {
+            Some(number) => Some(number as usize),
+            None => None,
+        },
     }
 }
 
