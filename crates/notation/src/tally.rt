@@ -31,7 +31,7 @@ impl Tally {
 pub impl Sink for Tally as TallySink {
     ghost State = { ℕ };
 
-    ghost fresh = { 0 };
+    ghost fresh = { λ n. n ≡ 0 };
 
     ghost state = { keptOf };
 

@@ -151,7 +151,7 @@ impl Transcript {
 pub impl Sink for Transcript as TranscriptSink {
     ghost State = { List ℕ };
 
-    ghost fresh = { [] };
+    ghost fresh = { λ text. text ≡ [] };
 
     ghost state = { textOf };
 

@@ -93,7 +93,7 @@ impl Chain {
 pub impl Sink for Chain as ChainSink {
     ghost State = { List ℕ };
 
-    ghost fresh = { [] };
+    ghost fresh = { λ row. row ≡ [] };
 
     ghost state = { codesOf };
 

@@ -7,12 +7,12 @@ ghost use Rattle.sink.specs.Answer.{answer};
 use crate::fault::SinkFault;
 use events::Event;
 
-// Takes events, one after another. `state` is what it stands at, `fresh` what a new one stands at; for a state and an
-// event `refusal` is 0 or the number it is refused with, and `after` the state that keeping it leads to.
+// Takes events, one after another. `state` is what it stands at, and `fresh` says of a state that a new one stands so; for a
+// state and an event `refusal` is 0 or the number it is refused with, and `after` the state that keeping it leads to.
 pub trait Sink {
     ghost State: { Type 0 };
 
-    ghost fresh: { State };
+    ghost fresh: { State → Type 0 };
 
     ghost state: { Self → State };
 
