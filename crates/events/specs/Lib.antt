@@ -1,1 +1,4 @@
 pub mod Event
+pub mod Refusal
+pub mod Checks
+pub mod Entry
