@@ -7,6 +7,7 @@ pub(crate) enum Command {
     Help,
     Read(Option<usize>),
     Count(Option<usize>),
+    Journal,
     // a number that is none of those that a piece can have
     BadPiece,
     // words that are no command
@@ -16,8 +17,9 @@ pub(crate) enum Command {
 pub(crate) fn usage() -> &'static str {
     "usage: pedalfeed read [N]    print the events of the stream on standard input
        pedalfeed count [N]   print how many there are
+       pedalfeed journal     print the events of the journal on standard input
        pedalfeed help        print this
-Both print the last event ID, the reconnection time and the fault, if there is one.
+The first two print the last event ID, the reconnection time and the fault, if there is one.
 N, from 1 to 4096, is the length of the pieces that the stream is handed on in.
 "
 }
@@ -38,6 +40,7 @@ pub(crate) fn asked(words: &[String]) -> Command {
 fn one_word(word: &[u8]) -> Command {
     match word {
         b"help" => Command::Help,
+        b"journal" => Command::Journal,
         _ => with_piece(word, None),
     }
 }
@@ -46,7 +49,7 @@ fn with_piece(word: &[u8], piece: Option<usize>) -> Command {
     match word {
         b"read" => Command::Read(piece),
         b"count" => Command::Count(piece),
-        b"help" => Command::Unknown("too many words"),
+        b"help" | b"journal" => Command::Unknown("too many words"),
         _ => Command::Unknown("unknown word"),
     }
 }

@@ -62,7 +62,7 @@ fn next_part(rt: &LibcRuntime, whole: bool, part: &mut [u8]) -> io::Result<usize
 }
 
 // Fills the memory, and answers with how much: less than all of it only at the end of the input.
-fn fill(rt: &LibcRuntime, memory: &mut [u8]) -> io::Result<usize>
+pub(crate) fn fill(rt: &LibcRuntime, memory: &mut [u8]) -> io::Result<usize>
     ensures { λ r. ⌜ made r (λ n. n ≤ length (now (memory .exit))) ⌝ }
 {
     let mut filled = 0;

@@ -1,12 +1,14 @@
-// pedalfeed: reads a recorded event stream and tells what a pedalboard would keep of it.
+// pedalfeed: reads a recorded event stream or a journal, and tells what events are in it.
 mod command;
 mod input;
+mod journals;
 mod output;
 
 use crate::command::Command;
 use crate::command::asked;
 use crate::command::usage;
 use crate::input::read_input;
+use crate::journals::tell_journal;
 use crate::output::TallyOutput;
 use crate::output::TranscriptOutput;
 use crate::output::tell_end;
@@ -25,6 +27,7 @@ fn main(rt: LibcRuntime) -> Result<(), AnyError> {
         }
         Command::Read(piece) => read(&rt, piece),
         Command::Count(piece) => count(&rt, piece),
+        Command::Journal => tell_journal(&rt),
         Command::BadPiece => {
             eprintln!(rt, "error: a piece has 1 to 4096 bytes")?;
             Err("a piece has 1 to 4096 bytes".into())
