@@ -20,19 +20,6 @@ mod tests {
     use sink::ChainSink;
     use std::test::*;
 
-    // Whether the fault has this number, layer, line and byte; an empty layer stands for no fault.
-    fn is(fault: Option<Fault>, number: u32, layer: &[u8], line: u32, byte: u32) -> bool {
-        let Some(fault) = fault else {
-            return layer.is_empty();
-        };
-        let its_layer: &[u8] = match fault.layer() {
-            Layer::Line => b"line",
-            Layer::Field => b"field",
-            Layer::Sink => b"sink",
-        };
-        fault.number() == number && its_layer == layer && fault.line == line && fault.byte == byte
-    }
-
     // Reads a stream in pieces, and answers how many events were kept and what stopped it.
     fn read(pieces: &[&[u8]]) -> Progress {
         let mut reader = Reader::new();
@@ -53,6 +40,19 @@ mod tests {
         check(came.kept == kept && came.fault.is_none())
     }
 
+    // The fault is of that layer, and has that number, line and byte.
+    fn stopped(fault: Option<Fault>, layer: &[u8], numbers: [u32; 3]) -> Result<(), Fail> {
+        let Some(fault) = fault else {
+            return check(false);
+        };
+        let its_layer: &[u8] = match fault.layer() {
+            Layer::Line => b"line",
+            Layer::Field => b"field",
+            Layer::Sink => b"sink",
+        };
+        check(its_layer == layer && [fault.number(), fault.line, fault.byte] == numbers)
+    }
+
     #[test]
     fn data_alone() -> Result<(), Fail> {
         keeps(&[b"\n"], 0)?;
@@ -69,28 +69,18 @@ mod tests {
     fn long_line() -> Result<(), Fail> {
         let line = [b':'; 1025];
         keeps(&[&line[..1024], b"\n"], 0)?;
-        check(is(read(&[&line[..]]).fault, 8, b"line", 1, 1024))
+        stopped(read(&[&line[..]]).fault, b"line", [8, 1, 1024])
     }
 
     #[test]
     fn long_values() -> Result<(), Fail> {
         let value = [b'x'; 513];
         keeps(&[b"id:", &value[..32], b"\n"], 0)?;
-        check(is(
-            read(&[b"id:", &value[..33], b"\n"]).fault,
-            9,
-            b"field",
-            1,
-            36,
-        ))?;
+        let long_id = read(&[b"id:", &value[..33], b"\n"]);
+        stopped(long_id.fault, b"field", [9, 1, 36])?;
         keeps(&[b"data:", &value[..512], b"\n\n"], 1)?;
-        check(is(
-            read(&[b"\ndata:", &value[..], b"\n\n"]).fault,
-            11,
-            b"field",
-            2,
-            519,
-        ))
+        let long_data = read(&[b"\ndata:", &value[..], b"\n\n"]);
+        stopped(long_data.fault, b"field", [11, 2, 519])
     }
 
     #[test]
@@ -101,9 +91,10 @@ mod tests {
             let _ = reader.read(b"id:8\nevent:insert\ndata:0 1\n\n", &mut chain);
         }
         let ninth = reader.read(b"id:9\nevent:insert\ndata:0 1\n\n", &mut chain);
-        check(is(ninth.fault, 28, b"sink", 36, 251))?;
+        stopped(ninth.fault, b"sink", [28, 36, 251])?;
         check(reader.last_id() == b"8")?;
         let again = reader.read(b"data\n\n", &mut chain);
-        check(again.kept == 0 && is(again.fault, 28, b"sink", 36, 251))
+        check(again.kept == 0)?;
+        stopped(again.fault, b"sink", [28, 36, 251])
     }
 }
