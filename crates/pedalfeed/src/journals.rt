@@ -48,7 +48,11 @@ fn tell_events(rt: &LibcRuntime, reader: &mut JournalReader<'_>) -> Result<(), A
     Ok(())
 }
 
-fn tell_event(rt: &LibcRuntime, stored: Stored<'_>, transcript: &mut Transcript) -> Result<(), AnyError> {
+fn tell_event(
+    rt: &LibcRuntime,
+    stored: Stored<'_>,
+    transcript: &mut Transcript,
+) -> Result<(), AnyError> {
     let data = data_of(rt.alloc(), stored)?;
     let _ = transcript.keep(Event {
         id: stored.id,
