@@ -1,4 +1,7 @@
 // From lines that people write to a stream: each line says an event, and each event is written under the next number.
+
+#![tactic(auto)]
+
 mod laws;
 mod lines;
 mod stop;

@@ -1,4 +1,7 @@
 // Bytes in fixed memory: a buffer that holds at most N of them.
+
+#![tactic(auto)]
+
 ghost use Rattle.std.specs.Prelude.{◌≡◌, ◌+◌, ◌<◌, ◌≤◌, [], ◌∷◌, ◌++◌, length, is_ok, if◌then◌else◌, nat_le, nat_lt, slice_set};
 ghost use Rattle.buffer.specs.Bytes.{bytes_of};
 

@@ -1,4 +1,7 @@
 // Numbers in base ten, as text.
+
+#![tactic(auto)]
+
 ghost use Rattle.std.specs.Prelude.{◌≡◌};
 ghost use Rattle.decimal.specs.Decimal.{capped_digit, capped_number};
 

@@ -4,7 +4,7 @@ ghost use Rattle.decoder.specs.Standard.{is_mark};
 ghost use Rattle.decoder.specs.Code.{bytes_of};
 
 // A character, as its bytes in UTF-8.
-#[derive(Clone, Copy)]
+#[derive(Clone, Copy, Debug, PartialEq)]
 pub enum Character {
     One(u8),
     Two(u8, u8),
@@ -28,7 +28,7 @@ impl Character {
 }
 
 // The characters that one byte gives: none, one, or U+FFFD and then one.
-#[derive(Clone, Copy)]
+#[derive(Clone, Copy, Debug, PartialEq)]
 pub enum Given {
     Nothing,
     One(Character),

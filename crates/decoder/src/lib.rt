@@ -1,4 +1,7 @@
 // A UTF-8 decoder that takes a stream byte by byte.
+
+#![tactic(auto)]
+
 mod character;
 mod decoder;
 mod laws;

@@ -1,4 +1,7 @@
 // What an event is, as every layer hands it on, and why a call is refused.
+
+#![tactic(auto)]
+
 ghost use Rattle.events.specs.Event.{event_of};
 
 mod checks;

@@ -4,7 +4,7 @@ use Rattle.std.specs.Prelude.{◌≡◌, ℕ, ◌-◌, Bool, true, false, cond, 
 use Rattle.decimal.specs.Decimal.{capped_number}
 use Rattle.events.specs.Event.{Event}
 use Rattle.fields.specs.Cause.{Cause, id_too_long, type_too_long, data_too_long}
-use Rattle.field.specs.Field.{Field, comment, other, data_field, event_field, id_field, retry_field, field_of}
+use Rattle.fields.specs.Field.{Field, comment, other, data_field, event_field, id_field, retry_field, field_of}
 
 -- The three buffers of the block, and what outlives a stream: the last event ID and the reconnection time in milliseconds.
 pub record Held : Type 0 where

@@ -1,12 +1,23 @@
 -- What the program's values stand for.
-use Rattle.std.specs.Prelude.{Bool, true, false, Ok, Err, Result}
+use Rattle.std.specs.Prelude.{ℕ, Bool, true, false, Ok, Err, Result}
 use Rattle.buffer.specs.Bytes.{bytes_of}
+use Rattle.fields.specs.declared.field.Field.{Field as Said}
+use Rattle.fields.specs.declared.field.Field.TheVariants.{Comment, Data, Event, Id, Retry, Other}
 use Rattle.fields.specs.declared.fault.FieldFault.{FieldFault}
 use Rattle.fields.specs.declared.fault.FieldFault.TheVariants.{LongId, LongType, LongData, Sink}
 use Rattle.fields.specs.declared.block.Fields.{Fields}
+use Rattle.fields.specs.Field.{Field, comment, other, data_field, event_field, id_field, retry_field}
 use Rattle.fields.specs.Cause.{Cause, id_too_long, type_too_long, data_too_long, refused_by_sink}
 use Rattle.fields.specs.Block.{Held, Outcome, nothing, event, over}
 use Rattle.fields.specs.Hand.{Answer, quiet, kept, faulted}
+
+abbrev pub field_said : Said → Field
+field_said Comment = comment
+field_said (Data v) = data_field v.now
+field_said (Event v) = event_field v.now
+field_said (Id v) = id_field v.now
+field_said (Retry v) = retry_field v.now
+field_said Other = other
 
 -- Each fault with its number and layer.
 abbrev pub cause_of : FieldFault → Cause

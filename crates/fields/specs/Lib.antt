@@ -1,3 +1,4 @@
+pub mod Field
 pub mod Cause
 pub mod Block
 pub mod Hand

@@ -2,17 +2,17 @@
 ghost use Rattle.std.specs.Prelude.{◌≡◌, ◌<◌, [], length, is_ok, if◌then◌else◌, nat_eq, nat_le};
 ghost use Rattle.buffer.specs.Bytes.{bytes_of};
 ghost use Rattle.sink.specs.Answer.{answer};
-ghost use Rattle.field.specs.Code.{field_said};
 ghost use Rattle.fields.specs.Block.{unread, renewed, joined, says_data, says_event, says_id, says_retry, says, has_nul, typed, block_event, moved};
 ghost use Rattle.fields.specs.Hand.{hand_line};
-ghost use Rattle.fields.specs.Code.{held_of, answer_of, field_answer, field_told};
+ghost use Rattle.fields.specs.Code.{held_of, answer_of, field_said, field_answer, field_told};
 
 use crate::block::Fields;
 use crate::fault::FieldFault;
+use crate::field::Field;
+use crate::reads::field_of;
 use buffer::{Buffer, Full};
 use decimal::capped;
 use events::Event;
-use field::{Field, field_of};
 use sink::{Sink, SinkFault};
 
 // The reconnection time of a new receiver, and the longest, in milliseconds.

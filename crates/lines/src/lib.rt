@@ -1,4 +1,7 @@
 // From the bytes of a stream to lines, and with fields and sink to events: the reader of a stream.
+
+#![tactic(auto)]
+
 mod causes;
 mod fault;
 mod reader;

@@ -1,5 +1,5 @@
 -- What a link has to offer at a moment. The meaning of a link, the list of the bytes that wait, does not fix it; but with nothing waiting
--- the room of a link that serves is 16 or more.
+-- the room is never under the link's least, and that is 16 or more.
 use Rattle.std.specs.Prelude.{ℕ}
 
 pub record Offer : Type 0 where

@@ -15,6 +15,9 @@ sized n = cond (nat_le 16 n && nat_le n 65536) (Ok tt) (Err MemorySize)
 abbrev pub pipe_waiting : Pipe → List ℕ
 pipe_waiting p = items p.bytes
 
+abbrev pub pipe_least : Pipe → ℕ
+pipe_least p = capacity_of p.bytes
+
 -- whether its memory is long enough: `new` sees to it, the type does not
 abbrev pub pipe_serves : Pipe → Bool
 pipe_serves p = nat_le 16 (capacity_of p.bytes)
@@ -22,5 +25,8 @@ pipe_serves p = nat_le 16 (capacity_of p.bytes)
 abbrev pub pipe_offer : Pipe → Offer
 pipe_offer p = record { room = capacity_of p.bytes - length (items p.bytes) }
 
-pub pipe_roomy : (p : Pipe) → pipe_serves p ≡ true → pipe_waiting p ≡ [] → 16 ≤ (pipe_offer p).room
-pipe_roomy p s e = omega (arith, leb-true 16 (capacity_of p.bytes) s, ap length e)
+pub pipe_roomy : (p : Pipe) → pipe_waiting p ≡ [] → pipe_least p ≤ (pipe_offer p).room
+pipe_roomy p e = omega (arith, ap length e)
+
+pub pipe_enough : (p : Pipe) → pipe_serves p ≡ true → 16 ≤ pipe_least p
+pipe_enough p s = leb-true 16 (capacity_of p.bytes) s

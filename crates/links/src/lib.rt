@@ -1,4 +1,7 @@
 // Bytes on their way: what a link is, a pipe over lent memory and a mailbox.
+
+#![tactic(auto)]
+
 mod mailboxes;
 mod pipes;
 mod traits;

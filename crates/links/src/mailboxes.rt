@@ -1,5 +1,5 @@
 ghost use Rattle.std.specs.Prelude.{◌≡◌, []};
-ghost use Rattle.links.specs.Mailboxes.{box_waiting, box_offer, box_serves, box_roomy};
+ghost use Rattle.links.specs.Mailboxes.{box_waiting, box_offer, box_least, box_roomy, box_serves, box_enough};
 
 use crate::traits::Link;
 use buffer::Buffer;
@@ -28,9 +28,13 @@ impl Link for Mailbox {
 
     ghost offer = { box_offer };
 
-    ghost serves = { box_serves };
+    ghost least = { box_least };
 
     ghost roomy = { box_roomy };
+
+    ghost serves = { box_serves };
+
+    ghost enough = { box_enough };
 
     fn serves(&self) -> bool {
         true

@@ -1,6 +1,6 @@
-ghost use Rattle.std.specs.Prelude.{◌≡◌, true, [], length, Ok, Err, MatchResult};
+ghost use Rattle.std.specs.Prelude.{◌≡◌, ◌≤◌, true, [], length, Ok, Err, MatchResult};
 ghost use Rattle.queue.specs.Items.{items, capacity_of};
-ghost use Rattle.links.specs.Pipes.{sized, pipe_waiting, pipe_offer, pipe_serves, pipe_roomy};
+ghost use Rattle.links.specs.Pipes.{sized, pipe_waiting, pipe_offer, pipe_least, pipe_roomy, pipe_serves, pipe_enough};
 
 use crate::traits::Link;
 use events::Refusal;
@@ -25,7 +25,7 @@ fn check_size(n: usize) -> Result<(), Refusal>
 impl<'a> Pipe<'a> {
     // An empty pipe in memory of 16 to 65,536 bytes.
     pub fn new(mem: &'a mut [u8]) -> Result<Pipe<'a>, Refusal>
-        ensures { MatchResult result (λ p. (sized (length mem.old) ≡ Ok tt) × (pipe_waiting p ≡ []) × ((pipe_offer p).room ≡ length mem.old) × (pipe_serves p ≡ true)) (λ x. sized (length mem.old) ≡ Err x) }
+        ensures { MatchResult result (λ p. (sized (length mem.old) ≡ Ok tt) × (pipe_waiting p ≡ []) × (pipe_least p ≡ length mem.old) × (16 ≤ pipe_least p) × ((pipe_offer p).room ≡ length mem.old) × (pipe_serves p ≡ true)) (λ x. sized (length mem.old) ≡ Err x) }
     {
         check_size(mem.len())?;
         let bytes = Queue::new(mem);
@@ -38,9 +38,13 @@ impl<'a> Link for Pipe<'a> {
 
     ghost offer = { pipe_offer };
 
-    ghost serves = { pipe_serves };
+    ghost least = { pipe_least };
 
     ghost roomy = { pipe_roomy };
+
+    ghost serves = { pipe_serves };
+
+    ghost enough = { pipe_enough };
 
     fn serves(&self) -> bool {
         self.bytes.capacity() >= 16

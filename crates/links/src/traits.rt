@@ -2,16 +2,21 @@ ghost use Rattle.std.specs.Prelude.{◌≡◌, ℕ, ◌≤◌, min, Bool, true, 
 ghost use Rattle.links.specs.Offer.{Offer};
 
 // Bytes on their way, first in, first out. `waiting` are those put and not yet taken. What it has to offer at a moment, its room, may go up and
-// down as the link likes; but a link that serves has room for 16 bytes at least whenever nothing waits.
+// down as the link likes; only `least`, which no call changes, is sure: that much room there is whenever nothing waits. A link that is made
+// has 16 at least, and one that serves too.
 pub trait Link {
     ghost waiting: { Self → List ℕ };
 
     ghost offer: { Self → Offer };
 
+    ghost least: { Self → ℕ };
+
+    ghost roomy: { (l : Self) → waiting l ≡ [] → least l ≤ (offer l).room };
+
     // Whether it was made with the room that a link has to have. No call changes it, and a feed is made only over a link that serves.
     ghost serves: { Self → Bool };
 
-    ghost roomy: { (l : Self) → serves l ≡ true → waiting l ≡ [] → 16 ≤ (offer l).room };
+    ghost enough: { (l : Self) → serves l ≡ true → 16 ≤ least l };
 
     // Whether it serves.
     fn serves(&self) -> bool
@@ -28,12 +33,14 @@ pub trait Link {
     // Drops what waits.
     fn clear(&mut self)
         ensures waiting { waiting self.new ≡ [] }
+        ensures least { least self.new ≡ least self.old }
         ensures serves { serves self.new ≡ serves self.old };
 
     // As many of the first bytes as there is room for, behind what waits; says how many.
     fn put(&mut self, bytes: &[u8]) -> usize
         ensures count { result ≡ min (length bytes.now) (offer self.old).room }
         ensures waiting { waiting self.new ≡ waiting self.old ++ take result bytes.now }
+        ensures least { least self.new ≡ least self.old }
         ensures serves { serves self.new ≡ serves self.old };
 
     // As many of the first bytes that wait as `out` has places for, into its front; says how many. What `out` holds behind them stays.
@@ -41,5 +48,6 @@ pub trait Link {
         ensures count { result ≡ min (length out.old) (length (waiting self.old)) }
         ensures out { out.new ≡ take result (waiting self.old) ++ drop result out.old }
         ensures waiting { waiting self.new ≡ drop result (waiting self.old) }
+        ensures least { least self.new ≡ least self.old }
         ensures serves { serves self.new ≡ serves self.old };
 }

@@ -1,4 +1,7 @@
 // How programs print events, and the sinks that they print from.
+
+#![tactic(auto)]
+
 mod end;
 mod page;
 mod tally;

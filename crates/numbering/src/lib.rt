@@ -1,4 +1,7 @@
 // Numbers as text: what a numbering is, and two of them.
+
+#![tactic(auto)]
+
 mod banks;
 mod decimals;
 mod digits;

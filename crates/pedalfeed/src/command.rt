@@ -48,33 +48,35 @@ pub(crate) fn asked(words: &[String]) -> Command {
 fn one_word(word: &[u8]) -> Command {
     match word {
         b"help" => Command::Help,
-        b"read" => Command::Read(None),
-        b"count" => Command::Count(None),
         b"journal" => Command::Journal,
         b"write" => Command::Write(Numbers::Decimal, LineEnd::Lf),
-        _ => Command::Unknown("unknown word"),
+        _ => with_piece(word, None),
     }
 }
 
 fn with_more(word: &[u8], more: &[String]) -> Command {
     match word {
-        b"read" | b"count" => with_piece(word, more),
         b"write" => with_form(more),
-        b"help" | b"journal" => Command::Unknown("too many words"),
-        _ => Command::Unknown("unknown word"),
+        _ => with_number(word, more),
     }
 }
 
-fn with_piece(word: &[u8], more: &[String]) -> Command {
+fn with_number(word: &[u8], more: &[String]) -> Command {
     let [number] = more else {
         return Command::Unknown("too many words");
     };
     match capped(number.as_bytes(), 4097) {
         Some(0) | Some(4097) | None => Command::BadPiece,
-        Some(piece) => match word {
-            b"count" => Command::Count(Some(piece as usize)),
-            _ => Command::Read(Some(piece as usize)),
-        },
+        Some(piece) => with_piece(word, Some(piece as usize)),
+    }
+}
+
+fn with_piece(word: &[u8], piece: Option<usize>) -> Command {
+    match word {
+        b"read" => Command::Read(piece),
+        b"count" => Command::Count(piece),
+        b"help" | b"journal" => Command::Unknown("too many words"),
+        _ => Command::Unknown("unknown word"),
     }
 }
 

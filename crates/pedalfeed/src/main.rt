@@ -1,4 +1,7 @@
 // pedalfeed: reads a recorded event stream or a journal, and tells what events are in it; writes a stream from events.
+
+#![tactic(auto)]
+
 mod command;
 mod input;
 mod journals;

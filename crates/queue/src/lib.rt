@@ -1,4 +1,7 @@
 // First in, first out: one ring over lent memory, for every element that is `Copy`.
+
+#![tactic(auto)]
+
 ghost use Rattle.std.specs.Prelude.{◌≡◌, ◌-◌, ◌<◌, ◌≤◌, min, [], ◌∷◌, ◌++◌, length, take, drop, is_ok, if◌then◌else◌, ◌==◌, nat_lt};
 ghost use Rattle.std.specs.List.{slice_get};
 ghost use Rattle.queue.specs.Ring.{place_of};

@@ -1,4 +1,7 @@
 // readback: writes the events on standard input as a stream in memory, and prints what is read of that.
+
+#![tactic(auto)]
+
 use anyhow::anyhow;
 use authoring::write_lines;
 use events::LineEnd;

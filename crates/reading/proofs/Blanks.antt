@@ -3,7 +3,7 @@ use Rattle.std.proofs.Common.{◌≡◌, ℕ, ◌+◌, ◌-◌, Bool, true, fals
 use Rattle.std.specs.List.{flat_map}
 use Rattle.std.proofs.lemmas.List.{take_at}
 use Rattle.events.specs.Event.{Event}
-use Rattle.field.specs.Field.{Field, field_of}
+use Rattle.fields.specs.Field.{Field, field_of}
 use Rattle.fields.specs.Block.{Held, Outcome, nothing, event, typed, block_event, moved, blank_outcome}
 use Rattle.reading.specs.Blocks.{Line, data_of, type_of, id_of, time_of, datas, types, ids, times, last_or, between, Blocks, parted_after, parted, event_with, events_from, id_after, last_id_after}
 use Rattle.reading.specs.Standard.{Before, events_of}

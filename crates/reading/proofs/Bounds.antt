@@ -4,7 +4,7 @@ use Rattle.std.proofs.lemmas.Bool.{or_parts, or_from, or_left, or_right, ltb-fal
 use Rattle.events.specs.Event.{Event}
 use Rattle.decoder.specs.Standard.{Char}
 use Rattle.fields.specs.Cause.{Cause, line_too_long, id_too_long, type_too_long, data_too_long, refused_by_sink}
-use Rattle.field.specs.Field.{field_of}
+use Rattle.fields.specs.Field.{field_of}
 use Rattle.reading.specs.Lines.{lines, unfinished}
 use Rattle.reading.specs.Blocks.{Line, Blocks, parted, datas}
 use Rattle.reading.specs.Standard.{events_of}

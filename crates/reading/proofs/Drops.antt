@@ -1,15 +1,14 @@
 -- The laws of line ends and of unfinished blocks.
-use Rattle.std.proofs.Common.{◌≡◌, ℕ, zero, true, false, cond, ◌||◌, List, [], ◌∷◌, ◌++◌, sym, refl, ap, ◌∙◌, append_assoc, append-nil}
+use Rattle.std.proofs.Common.{◌≡◌, ℕ, zero, suc, Bool, true, false, cond, ◌||◌, List, [], ◌∷◌, ◌++◌, map, sym, refl, ap, ◌∙◌, subst, append_assoc, append-nil}
+use Rattle.std.specs.List.{flat_map}
 use Rattle.std.proofs.lemmas.Bool.{or_parts, false≢true}
 use Rattle.decoder.specs.Standard.{Char, text}
 use Rattle.lines.specs.Line.{is_lf, is_cr}
-use Rattle.reading.specs.Lines.{within, ends, feeds, lines_after}
-use Rattle.reading.specs.Blocks.{Line, parted_after, events_from, last_id_after}
-use Rattle.reading.specs.Standard.{lines_of}
+use Rattle.reading.specs.Lines.{End, within, ends, feeds, end_at, lines_after, lines}
+use Rattle.reading.specs.Blocks.{Line, Blocks, parted_after, parted, events_from, last_id_after}
+use Rattle.reading.specs.Standard.{Before, lines_of, events_of}
 use Rattle.reading.specs.Limits.{any}
-use Rattle.events.specs.declared.line_end.LineEnd.{LineEnd}
-use Rattle.events.specs.declared.line_end.LineEnd.TheVariants.{Lf, CrLf, Cr}
-use Rattle.reading.specs.Laws.{end_chars, with_ends, has_end, blank, LineEndsMayBeExchanged, UnfinishedBlocksAreDropped, WithoutABlankLineNothingIsKept, AFirstMarkIsDropped}
+use Rattle.reading.specs.Laws.{LineEnd, lf, crlf, cr, end_chars, with_ends, has_end, blank, AddsNothing, LineEndsMayBeExchanged, UnfinishedBlocksAreDropped, WithoutABlankLineNothingIsKept, AFirstMarkIsDropped}
 
 -- characters that end no line join it
 joins : (cs rest : List Char) (line : List ℕ) → has_end cs ≡ false → lines_after 0 line (cs ++ rest) ≡ lines_after 0 (line ++ text cs) rest
@@ -27,17 +26,17 @@ no_feed : (cs rest : List Char) → has_end cs ≡ false → feeds rest ≡ 0 �
 no_feed [] rest e h = h
 no_feed (c ∷ cs) rest e h = ap (λ v. cond v 1 0) (or_parts (is_lf c) (is_cr c) (or_parts (is_lf c || is_cr c) (has_end cs) e).0).0
 
-cr_feeds : (ls : List (List Char)) → any has_end ls ≡ false → feeds (with_ends Cr ls) ≡ 0
+cr_feeds : (ls : List (List Char)) → any has_end ls ≡ false → feeds (with_ends cr ls) ≡ 0
 cr_feeds [] e = refl
-cr_feeds (l ∷ ls) e = ap feeds (append_assoc l (end_chars Cr) (with_ends Cr ls)) ∙ no_feed l (end_chars Cr ++ with_ends Cr ls) (or_parts (has_end l) (any has_end ls) e).0 refl
+cr_feeds (l ∷ ls) e = ap feeds (append_assoc l (end_chars cr) (with_ends cr ls)) ∙ no_feed l (end_chars cr ++ with_ends cr ls) (or_parts (has_end l) (any has_end ls) e).0 refl
 
 -- an end of each kind ends the line
-after_line_end : (e : LineEnd) (line : List ℕ) (rest : List Char) → (e ≡ Cr → feeds rest ≡ 0) → lines_after 0 line (end_chars e ++ rest) ≡ line ∷ lines_after 0 [] rest
-after_line_end Lf line rest h = refl
-after_line_end CrLf line rest h = refl
-after_line_end Cr line rest h = ap (λ n. line ∷ lines_after n [] rest) (h refl)
+after_line_end : (e : LineEnd) (line : List ℕ) (rest : List Char) → (e ≡ cr → feeds rest ≡ 0) → lines_after 0 line (end_chars e ++ rest) ≡ line ∷ lines_after 0 [] rest
+after_line_end lf line rest h = refl
+after_line_end crlf line rest h = refl
+after_line_end cr line rest h = ap (λ n. line ∷ lines_after n [] rest) (h refl)
 
-feeds_by : (e : LineEnd) (ls : List (List Char)) → any has_end ls ≡ false → e ≡ Cr → feeds (with_ends e ls) ≡ 0
+feeds_by : (e : LineEnd) (ls : List (List Char)) → any has_end ls ≡ false → e ≡ cr → feeds (with_ends e ls) ≡ 0
 feeds_by e ls h q = ap (λ d. feeds (with_ends d ls)) q ∙ cr_feeds ls h
 
 pub line_ends_may_be_exchanged : LineEndsMayBeExchanged

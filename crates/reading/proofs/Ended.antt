@@ -4,7 +4,7 @@ use Rattle.std.proofs.lemmas.Bool.{eqb-true, eqb-false}
 use Rattle.events.specs.Event.{Event}
 use Rattle.decoder.specs.Standard.{Char}
 use Rattle.fields.specs.Cause.{Cause, refused_by_sink}
-use Rattle.field.specs.Field.{Field, field_of}
+use Rattle.fields.specs.Field.{Field, field_of}
 use Rattle.fields.specs.Block.{Held, Outcome, Said, moved, emptied, said, blank_outcome}
 use Rattle.fields.specs.Hand.{Answer, quiet, kept, faulted, Handed, hand}
 use Rattle.lines.specs.Line.{Line, Turn, goes_on, ended, too_long, turn}

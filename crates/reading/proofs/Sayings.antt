@@ -6,7 +6,7 @@ use Rattle.std.proofs.lemmas.Bool.{cond_both, leb-true, leb-false, le-ltb, lt-lt
 use Rattle.decimal.specs.Decimal.{capped_number}
 use Rattle.events.specs.Event.{Event}
 use Rattle.fields.specs.Cause.{id_too_long, type_too_long, data_too_long}
-use Rattle.field.specs.Field.{Field, comment, other, data_field, event_field, id_field, retry_field, field_of}
+use Rattle.fields.specs.Field.{Field, comment, other, data_field, event_field, id_field, retry_field, field_of}
 use Rattle.fields.specs.Block.{Held, Outcome, nothing, event, Said, quietly, past, time_said, has_nul, says, typed, block_event, moved, blank_outcome, said}
 use Rattle.reading.specs.Blocks.{Line, data_of, type_of, id_of, times_of, time_of, datas, types, ids, times, last_or, between, Blocks, parted_after, parted, event_with, events_from, id_after, last_id_after}
 use Rattle.reading.specs.Standard.{Before, events_of, last_id_of, retry_of}

@@ -4,7 +4,7 @@ use Rattle.std.proofs.lemmas.Bool.{ltb-false, le-ltb, lt-ltb, eqb-true, eqb-fals
 use Rattle.events.specs.Event.{Event}
 use Rattle.decoder.specs.Standard.{Char}
 use Rattle.fields.specs.Cause.{Cause, line_too_long, id_too_long, type_too_long, data_too_long, refused_by_sink}
-use Rattle.field.specs.Field.{field_of}
+use Rattle.fields.specs.Field.{field_of}
 use Rattle.fields.specs.Block.{Held, Outcome, nothing, event, over, Said, moved, emptied, said, says, blank_outcome}
 use Rattle.fields.specs.Hand.{Answer, quiet, kept, faulted, Handed, hand}
 use Rattle.lines.specs.Line.{Line, Turn, goes_on, ended, too_long, turn}

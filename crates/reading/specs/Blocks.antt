@@ -3,7 +3,7 @@ use Rattle.std.specs.Prelude.{◌≡◌, ℕ, cond, List, [], ◌∷◌, ◌++�
 use Rattle.std.specs.List.{flat_map}
 use Rattle.decimal.specs.Decimal.{capped_number}
 use Rattle.events.specs.Event.{Event}
-use Rattle.field.specs.Field.{Field, comment, other, data_field, event_field, id_field, retry_field, field_of}
+use Rattle.fields.specs.Field.{Field, comment, other, data_field, event_field, id_field, retry_field, field_of}
 use Rattle.fields.specs.Block.{has_nul, typed}
 
 abbrev pub Line : Type 0

@@ -2,8 +2,6 @@
 use Rattle.std.specs.Prelude.{◌≡◌, ℕ, Bool, true, false, ◌||◌, List, [], ◌∷◌, ◌++◌, map}
 use Rattle.std.specs.List.{flat_map}
 use Rattle.events.specs.Event.{Event}
-use Rattle.events.specs.LineEnd.{end_bytes}
-use Rattle.events.specs.declared.line_end.LineEnd.{LineEnd}
 use Rattle.decoder.specs.Standard.{Char, chars, chars_after, text}
 use Rattle.lines.specs.Line.{is_lf, is_cr}
 use Rattle.lines.specs.Reader as reader
@@ -14,9 +12,14 @@ use Rattle.reading.specs.Standard.{Before, lines_of, events_of, last_id_of, retr
 use Rattle.reading.specs.Limits.{any}
 use Rattle.reading.specs.Outcome.{Outcome}
 
--- the end of a line, as characters
+-- The three ends of a line.
+pub data LineEnd : Type 0 where
+  lf crlf cr : LineEnd
+
 abbrev pub end_chars : LineEnd → List Char
-end_chars e = map (λ (b : ℕ). b ∷ []) (end_bytes e)
+end_chars lf = (0x0A ∷ []) ∷ []
+end_chars crlf = (0x0D ∷ []) ∷ (0x0A ∷ []) ∷ []
+end_chars cr = (0x0D ∷ []) ∷ []
 
 -- lines of characters, each with that end
 abbrev pub with_ends : LineEnd → List (List Char) → List Char

@@ -4,7 +4,7 @@ use Rattle.std.specs.List.{flat_map}
 use Rattle.events.specs.Event.{Event}
 use Rattle.decoder.specs.Standard.{Char, chars}
 use Rattle.fields.specs.Cause.{Cause, line_too_long, id_too_long, type_too_long, data_too_long, refused_by_sink}
-use Rattle.field.specs.Field.{Field, comment, other, data_field, event_field, id_field, retry_field, field_of}
+use Rattle.fields.specs.Field.{Field, comment, other, data_field, event_field, id_field, retry_field, field_of}
 use Rattle.reading.specs.Lines.{lines, unfinished}
 use Rattle.reading.specs.Blocks.{Line, datas, Blocks, parted}
 use Rattle.reading.specs.Standard.{events_of}

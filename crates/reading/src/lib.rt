@@ -1,4 +1,7 @@
 // Reading as the standard has it: what the reader makes of a whole stream, in whatever pieces it comes.
+
+#![tactic(auto)]
+
 mod laws;
 mod pieces;
 

@@ -1,4 +1,7 @@
 // Text as people write it for programs: lines, and texts between quotes.
+
+#![tactic(auto)]
+
 mod event;
 mod items;
 mod laws;

@@ -1,4 +1,7 @@
 // Where finished events go: what a sink is, and the chain of effects.
+
+#![tactic(auto)]
+
 mod chain;
 mod edit;
 mod fault;

@@ -1,4 +1,7 @@
 // vectors: runs the cases on standard input over the reader, and tells which are met.
+
+#![tactic(auto)]
+
 mod cases;
 mod quoted;
 mod trial;

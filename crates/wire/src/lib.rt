@@ -1,4 +1,7 @@
 // Where sending and reading meet: what is written for an event is read as that event alone.
+
+#![tactic(auto)]
+
 mod laws;
 mod reads;
 mod writes;

@@ -1,4 +1,7 @@
 // What a sender puts on a link: events, comments and reconnection times as bytes.
+
+#![tactic(auto)]
+
 mod lines;
 mod window;
 mod write;

@@ -4,4 +4,4 @@ use Rattle.links.proofs.Letters.{cleared}
 use Rattle.links.proofs.mailboxes.MailboxLink.clear.Goals as goal
 
 pub returns : goal.returns
-returns c = record { waiting = cleared (bytes_of c.clear.new.self) c.args.self.now.taken c.clear.ensures; serves = refl }
+returns c = record { waiting = cleared (bytes_of c.clear.new.self) c.args.self.now.taken c.clear.ensures; least = refl; serves = refl }

@@ -17,5 +17,5 @@ returns c =
       count = taken_count l n taken from (length c.args.out.now) start (c.min-n.ensures ∙ ap (λ (s : List ℕ). min (length c.args.out.now) (length s - from)) same);
       out = ap₂ (λ (p : List ℕ) (m : ℕ). p ++ drop m c.args.out.now) part e;
       waiting = taken_rest l n taken from start;
-      serves = refl;
+      least = refl; serves = refl;
     }

@@ -1,7 +1,7 @@
 use Rattle.std.proofs.Common.{◌≡◌, ℕ, ◌<◌, ◌≤◌, List, [], ◌∷◌, ◌++◌, length, get_or, codes, refl, arith, rules}
 use Rattle.std.proofs.lemmas.List.{get_or_past}
-use Rattle.field.proofs.Names.{At, Named, named, data_word, event_word, id_word, retry_word, with_space, without_space, name_alone, no_word, nonempty}
-use Rattle.field.proofs.field_of.Goals as goal
+use Rattle.fields.proofs.Names.{At, Named, named, data_word, event_word, id_word, retry_word, with_space, without_space, name_alone, no_word, nonempty}
+use Rattle.fields.proofs.reads.field_of.Goals as goal
 
 pub returns-in-100 : goal.returns-in-100
 returns-in-100 c =

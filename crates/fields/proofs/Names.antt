@@ -5,7 +5,7 @@ use Rattle.std.proofs.lemmas.Slice.Eq.{bytes_eq-Decides}
 use Rattle.std.proofs.lemmas.List.{drop_more, take_rest, get_or-drop, drop_all}
 use Rattle.std.proofs.lemmas.Bool.{cases_Bool}
 use Rattle.std.proofs.lemmas.Bool.Decides.{eqb_tells}
-use Rattle.field.specs.Field.{Field, comment, other, data_field, event_field, id_field, retry_field, before, unspaced, field_of}
+use Rattle.fields.specs.Field.{Field, comment, other, data_field, event_field, id_field, retry_field, before, unspaced, field_of}
 
 -- p stands in s from k on
 abbrev pub At : List ℕ → List ℕ → ℕ → Type 0

@@ -1,18 +1,9 @@
-// What one line says: its field, by its bytes.
+// The field of a line, by its bytes.
 ghost use Rattle.std.specs.Prelude.{◌≡◌};
-ghost use Rattle.field.specs.Field.{field_of};
-ghost use Rattle.field.specs.Code.{field_said};
+ghost use Rattle.fields.specs.Field.{field_of};
+ghost use Rattle.fields.specs.Code.{field_said};
 
-// The field of a line, with its value where it counts.
-#[derive(Clone, Copy)]
-pub enum Field<'a> {
-    Comment,
-    Data(&'a [u8]),
-    Event(&'a [u8]),
-    Id(&'a [u8]),
-    Retry(&'a [u8]),
-    Other,
-}
+use crate::field::Field;
 
 // The field that a line says.
 pub fn field_of<'a>(line: &'a [u8]) -> Field<'a>
