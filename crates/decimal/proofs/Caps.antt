@@ -1,8 +1,8 @@
 -- A number that is capped at each digit is the number capped.
-use Rattle.std.proofs.Common.{◌≡◌, ℕ, zero, suc, ◌+◌, ◌-◌, ◌*◌, ◌<◌, ◌≤◌, min, Bool, true, false, cond, ◌&&◌, List, [], ◌∷◌, length, get_or, drop, Some, None, Option, sym, refl, ap, ◌∙◌, ⊎_elim, arith}
+use Rattle.std.proofs.Common.{◌≡◌, ℕ, ◌+◌, ◌-◌, ◌*◌, ◌<◌, ◌≤◌, min, Bool, true, false, cond, ◌&&◌, List, [], ◌∷◌, length, get_or, drop, Some, None, Option, sym, refl, ap, ◌∙◌, ⊎_elim, arith}
 use Rattle.std.proofs.lemmas.Bool.{cases_lt}
 use Rattle.std.proofs.lemmas.List.{at_drop_more}
-use Rattle.decimal.specs.Decimal.{digit, all_digits, digits, value_after, capped_digit, capped_number}
+use Rattle.decimal.specs.Decimal.{digit, all_digits, value_after, capped_digit, capped_number}
 
 -- what digit by digit comes to from n
 abbrev pub rest : ℕ → ℕ → List ℕ → Option ℕ

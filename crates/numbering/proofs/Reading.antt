@@ -1,9 +1,9 @@
 -- Reading digit by digit reads the whole.
-use Rattle.std.proofs.Common.{◌≡◌, ℕ, ◌+◌, ◌-◌, ◌*◌, ◌<◌, ◌≤◌, Bool, true, false, cond, not, ◌&&◌, eqb, leb, List, [], ◌∷◌, length, get_or, drop, Some, None, Option, sym, refl, ap, ◌∙◌, arith}
+use Rattle.std.proofs.Common.{◌≡◌, ℕ, ◌+◌, ◌-◌, ◌*◌, ◌<◌, Bool, true, false, cond, not, ◌&&◌, leb, List, [], ◌∷◌, length, get_or, drop, Some, None, Option, sym, refl, ap, ◌∙◌, arith}
 use Rattle.decimal.specs.Decimal.{digit, all_digits, value, value_after}
 use Rattle.std.proofs.lemmas.List.{at_drop_more}
-use Rattle.std.proofs.lemmas.Bool.{and_right, leb-true, leb-false, lt-leb, le-leb, ne_eqb, eq-eqb}
-use Rattle.numbering.specs.Numeral.{plain, numeral, further}
+use Rattle.std.proofs.lemmas.Bool.{and_right, leb-false, lt-leb, le-leb, ne_eqb, eq-eqb}
+use Rattle.numbering.specs.Numeral.{numeral, further}
 use Rattle.numbering.specs.NumeralLaws.{value_grows}
 
 -- what digit by digit comes to from n

@@ -1,7 +1,7 @@
 -- Writing digit by digit, last first, writes the whole.
 use Rattle.std.proofs.Common.{◌≡◌, ℕ, ◌+◌, ◌-◌, ◌/◌, ◌%◌, ◌^◌, ◌<◌, ◌≤◌, Bool, true, false, cond, leb, ◌⊎◌, List, [], ◌∷◌, ◌++◌, length, get_or, take, drop, set, Some, None, decimal, Option, sym, refl, ap, ◌∙◌, ⊎_elim, arith}
 use Rattle.std.proofs.lemmas.Fmt.{decimal_nonempty, decimal_step, decimal_digit, length-decimal-le}
-use Rattle.std.proofs.lemmas.List.{append_assoc, append-nil, drop_all, drop_more, drop-append-le, take-append-drop, set_at, length-take-le, length_push, length-set, length-append, length-drop, drop-set}
+use Rattle.std.proofs.lemmas.List.{append_assoc, append-nil, drop_all, drop_more, drop-append-le, take-append-drop, set_at, length-take-le, length_push, length-set, length-drop, drop-set}
 use Rattle.std.proofs.lemmas.Bool.{le-leb, lt-leb, leb-true, leb-false, and_from, and_left, and_right}
 use Rattle.numbering.specs.Meaning.{fits}
 

@@ -1,14 +1,14 @@
 -- The laws of `Bank`.
-use Rattle.std.specs.Prelude.{◌≡◌, ℕ, ◌+◌, ◌-◌, ◌*◌, ◌/◌, ◌%◌, ◌^◌, ◌<◌, ◌≤◌, Bool, true, false, cond, List, [], ◌∷◌, ◌++◌, length, take, Some, None, decimal, Option, nat_le, slice_index, refl}
+use Rattle.std.specs.Prelude.{◌≡◌, ℕ, ◌+◌, ◌-◌, ◌^◌, ◌<◌, ◌≤◌, Bool, true, false, cond, List, [], ◌∷◌, ◌++◌, length, take, Some, None, decimal, Option, nat_le, slice_index, refl}
 use Rattle.std.proofs.Common.{sym, ap, ap₂, ◌∙◌, ⊎_elim, arith}
-use Rattle.std.proofs.lemmas.Fmt.{decimal_nonempty, length-decimal-le}
-use Rattle.std.proofs.lemmas.List.{length_push, take_at, get_or_push, take_more, take_all, get_or_append_left, nil_from_length}
+use Rattle.std.proofs.lemmas.Fmt.{length-decimal-le}
+use Rattle.std.proofs.lemmas.List.{length_push, take_at, get_or_push, take_more, take_all, get_or_append_left}
 use Rattle.std.proofs.lemmas.Bool.{and_parts, and_from, leb-true, le-leb, cases_lt}
 use Rattle.std.specs.Option.{option_map}
 use Rattle.numbering.specs.Banked.{bank_of, letter_of, banked, front, final, letter, number_in, banked_reading}
 use Rattle.numbering.specs.Meaning.{Printed, Names}
 use Rattle.numbering.specs.Numeral.{numeral}
-use Rattle.numbering.specs.NumeralLaws.{Written, numeral_decimal, decimal_numeral, decimal_byte}
+use Rattle.numbering.specs.NumeralLaws.{numeral_decimal, decimal_numeral, decimal_byte}
 
 pub short : 8 ≤ 32
 short = omega arith

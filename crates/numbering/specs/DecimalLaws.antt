@@ -1,6 +1,6 @@
 -- The laws of `Decimal`.
 use Rattle.std.specs.Prelude.{◌≡◌, ℕ, ◌^◌, ◌<◌, ◌≤◌, List, Some, decimal}
-use Rattle.std.proofs.Common.{arith, lit≤, lit<}
+use Rattle.std.proofs.Common.{arith}
 use Rattle.std.proofs.lemmas.Fmt.{decimal_nonempty, length-decimal-le}
 use Rattle.numbering.specs.Meaning.{Printed, Names}
 use Rattle.numbering.specs.Numeral.{numeral}

@@ -1,5 +1,5 @@
 -- Numbers in base ten without leading zeros. The text of n is std's `decimal n`; here is what a text is read as.
-use Rattle.std.specs.Prelude.{◌≡◌, ℕ, ◌+◌, ◌-◌, ◌*◌, Bool, true, false, cond, not, ◌&&◌, List, [], ◌∷◌, Some, None, codes, decimal, Option, ◌==◌, nat_le, refl}
+use Rattle.std.specs.Prelude.{◌≡◌, ℕ, ◌+◌, ◌-◌, ◌*◌, Bool, false, cond, not, ◌&&◌, List, [], ◌∷◌, Some, None, codes, decimal, Option, ◌==◌, nat_le, refl}
 use Rattle.decimal.specs.Decimal.{digit, all_digits, value}
 use Rattle.std.specs.Fmt.{digits}
 

@@ -1,12 +1,12 @@
 -- Numbers in base ten without leading zeros: what is written is read back, and nothing else is read.
-use Rattle.std.specs.Prelude.{◌≡◌, ℕ, ◌+◌, ◌-◌, ◌*◌, ◌^◌, ◌<◌, ◌≤◌, Bool, true, false, cond, not, ◌&&◌, leb, List, [], ◌∷◌, length, Some, None, decimal, Option, ◌==◌, nat_eq, nat_le, slice_index, refl}
-use Rattle.std.proofs.Common.{sym, ap, ap₂, ◌∙◌, ⊎_elim, arith}
+use Rattle.std.specs.Prelude.{◌≡◌, ℕ, ◌+◌, ◌-◌, ◌*◌, ◌^◌, ◌<◌, ◌≤◌, Bool, true, false, cond, not, ◌&&◌, leb, List, [], ◌∷◌, length, Some, None, decimal, ◌==◌, nat_eq, nat_le, slice_index, refl}
+use Rattle.std.proofs.Common.{sym, ap, ◌∙◌, ⊎_elim, arith}
 use Rattle.decimal.specs.Decimal.{digit, all_digits, value, value_after}
 use Rattle.std.proofs.lemmas.Fmt.{decimal_nonempty, first_decimal, decimal-digits_value, decimal_is_IsNumeral, digits_decimal, digits_value-decimal}
 use Rattle.std.proofs.lemmas.Str.Parse.{IsNumeralModel, IsDigitsTest, FoldsDigits, numerals_by_fold, digit_at}
-use Rattle.std.proofs.lemmas.Bool.{and_parts, and_from, and_right, leb-true, le-leb, lt-leb, eqb-false, ne_eqb, not-true, not_from_false, cases_lt, cases_Bool, both_ways}
+use Rattle.std.proofs.lemmas.Bool.{and_parts, and_from, leb-true, le-leb, eqb-false, ne_eqb, not-true, not_from_false, cases_lt, cases_Bool, both_ways}
 use Rattle.std.specs.Int.{IsInRange}
-use Rattle.numbering.specs.Numeral.{plain, numeral, further}
+use Rattle.numbering.specs.Numeral.{plain, numeral}
 
 -- the crate's words for digits and their value are std's
 tells : IsDigitsTest (λ ds. all_digits ds ≡ true)

@@ -75,9 +75,9 @@ fn remove_in(text: &[u8]) -> Edit
 pub(crate) fn read(event: Event<'_>) -> Edit
     ensures { result ≡ capped (edit_of (event_of event.entry)) }
 {
-    if event.event_type == b"insert" {
+    if event.event_type == b"insert".as_slice() {
         insert_in(event.data)
-    } else if event.event_type == b"remove" {
+    } else if event.event_type == b"remove".as_slice() {
         remove_in(event.data)
     } else {
         Edit::Other

@@ -1,4 +1,4 @@
-use Rattle.std.proofs.Common.{◌≡◌, ◌<◌, ◌≤◌, length, drop}
+use Rattle.std.proofs.Common.{◌≡◌, drop}
 use Rattle.decimal.proofs.Caps.{rest}
 use Rattle.decimal.proofs.capped.Given as goal
 

@@ -10,7 +10,7 @@ use Rattle.decoder.proofs.pieces.add_given.Goals as goal
 both : (x v w : List ℕ) (g : Given) (p : Character) → g ≡ Replaced p → v ≡ x ++ replacement → w ≡ v ++ bytes_of p → w ≡ x ++ text (chars_of g)
 both x v w g p e f h = h ∙ simp (f, e, append_assoc, append-nil)
 
-pub returns-in-ok-add-character : goal.returns-in-ok-add-character
-returns-in-ok-add-character c = λ ok.
-    both (vec_items c.args.out.now) (vec_items c.add-character-in-Replaced.new.out) _ c.args.given c.in-Replaced.c
-    c.in-Replaced.is c.in-ok-add-character.ensures (chosen _ _ _ _ c.add-character-in-Replaced-2.ensures ok)
+pub returns-in_ok-add_character-in-Replaced : goal.returns-in_ok-add_character-in-Replaced
+returns-in_ok-add_character-in-Replaced c = λ ok.
+    both (vec_items c.args.out.now) (vec_items c.add_character-in-Replaced.new.out) _ c.args.given c.in-Replaced.c
+    c.in-Replaced.is c.in_ok-add_character-in-Replaced.ensures (chosen _ _ _ _ c.add_character-in-Replaced-2.ensures ok)

@@ -10,7 +10,7 @@ loop-byte-init c = begins reads _ _ _ _ _ refl refl
 
 pub loop-byte-preserved : goal.loop-byte-preserved
 loop-byte-preserved c =
-    one_more _ _ _ _ c.push.ensures.state (c.in-ok-add-given.ensures refl ∙ ap (λ cs. vec_items c.loop-byte.out ++ text cs) c.push.ensures.out)
+    one_more _ _ _ _ c.push.ensures.state (c.in_ok-add_given.ensures refl ∙ ap (λ cs. vec_items c.loop-byte.out ++ text cs) c.push.ensures.out)
     (subst (Leads reads _ _ _ _) (at_drop_more (λ s. s) _ _ 0 c.loop-byte-test.true) c.loop-byte.invariant)
 
 pub returns : goal.returns

@@ -12,7 +12,7 @@ loop-piece-init c = begins reads _ _ _ _ _ c.new-decoder.ensures c.new-out.ensur
 
 pub loop-piece-preserved : goal.loop-piece-preserved
 loop-piece-preserved c =
-    let told = c.in-ok-add-piece.ensures in
+    let told = c.in_ok-add_piece.ensures in
     run_more _ _ _ _ (told.state refl) (told.out refl)
     (subst (Leads reads _ _ _ _) (at_drop_more (flat_map (λ p. p.now)) _ _ _ c.loop-piece-test.true) c.loop-piece.invariant)
 

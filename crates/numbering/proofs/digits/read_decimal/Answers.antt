@@ -1,4 +1,4 @@
-use Rattle.std.proofs.Common.{◌≡◌, ◌<◌, length, sym, ◌∙◌, rules}
+use Rattle.std.proofs.Common.{◌<◌, length, sym, ◌∙◌, rules}
 use Rattle.std.proofs.lemmas.List.{at_drop_all}
 use Rattle.numbering.proofs.Reading.{rest, goes_on_at, stops_at, from_first}
 use Rattle.numbering.proofs.digits.read_decimal.Goals as goal

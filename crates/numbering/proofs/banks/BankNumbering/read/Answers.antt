@@ -3,7 +3,7 @@ use Rattle.numbering.specs.NumeralLaws.{decimal_numeral}
 use Rattle.numbering.proofs.banks.BankNumbering.read.Goals as goal
 
 -- a bank is at least 1
-pub overflow-sub-result : goal.overflow-sub-result
-overflow-sub-result c =
+pub overflow_sub-result : goal.overflow_sub-result
+overflow_sub-result c =
     let bytes = c.args.bytes.now in
     (decimal_numeral 1000000 (take (length bytes - 1 - 0) bytes) c.in-Some.bank (omega arith) (sym c.in-Some.ensures)).one
