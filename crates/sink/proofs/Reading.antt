@@ -4,7 +4,6 @@ use Rattle.std.proofs.lemmas.List.{take_rest, drop_all}
 use Rattle.std.proofs.lemmas.Slice.Eq.{slice_eq-Decides, bytes_eq-Decides}
 use Rattle.std.proofs.lemmas.Bool.{cond-true, cond-false}
 use Rattle.std.proofs.lemmas.Bool.Decides.{same_from_decides, Decides-eqb}
-use Rattle.std.specs.Cmp.Lexicographic.{Matches}
 use Rattle.std.specs.Str.{bytes_eq}
 use Rattle.std.specs.Option.{option_map}
 use Rattle.sink.specs.Numeral.{numeral}
@@ -41,10 +40,6 @@ module _ (s : List ℕ) (at : ℕ) (is-space : at ≡ to_space s) where
       no_code : (place : Option ℕ) → Other ≡ capped (insert_of place None)
       no_code (Some place) = refl
       no_code None = refl
-
--- `==` on bytes is the test that the definitions make
-pub same_test : (s t : List ℕ) (r v : Bool) → Matches (λ (a b : ℕ) (w : Bool). Decides w (a ≡ b)) s t r → r ≡ v → bytes_eq s t ≡ v
-same_test s t r v m e = same_from_decides (bytes_eq s t) r (bytes_eq-Decides s t) (slice_eq-Decides Decides-eqb s t r m) ∙ e
 
 module _ (e : Event) where
   pub asks_to_insert : bytes_eq e.type (codes "insert") ≡ true → insertion e.«data» ≡ edit_of e

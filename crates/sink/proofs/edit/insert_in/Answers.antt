@@ -5,13 +5,13 @@ use Rattle.sink.proofs.edit.insert_in.Goals as goal
 pub returns-then-at-text : goal.returns-then-at-text
 returns-then-at-text c = no_pair_without_a_space c.args.text.now c.space-at.result c.space-at.ensures c.if-at-text.true
 
-pub returns-in-default : goal.returns-in-default
-returns-in-default c =
-    reads_the_pair c.args.text.now c.space-at.result c.space-at.ensures None _ c.in-default.ensures refl
+pub returns-in_default : goal.returns-in_default
+returns-in_default c =
+    reads_the_pair c.args.text.now c.space-at.result c.space-at.ensures None _ c.in_default.ensures refl
 
-pub returns-in-default-number : goal.returns-in-default-number
-returns-in-default-number c =
-    reads_the_pair c.args.text.now c.space-at.result c.space-at.ensures (Some c.in-Some.place) None c.in-Some.ensures c.in-default-number.ensures
+pub returns-in_default-number : goal.returns-in_default-number
+returns-in_default-number c =
+    reads_the_pair c.args.text.now c.space-at.result c.space-at.ensures (Some c.in-Some.place) None c.in-Some.ensures c.in_default-number.ensures
 
 pub returns : goal.returns
 returns c =
