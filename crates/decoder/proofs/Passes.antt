@@ -1,9 +1,8 @@
 -- A byte that passes as it stands gives itself, and leaves the decoder as it is.
-use Rattle.std.proofs.Common.{◌≡◌, ℕ, Bool, true, false, ◌&&◌, eqb, List, [], ◌∷◌, sym, refl, ap, ◌∙◌, arith}
-use Rattle.std.proofs.lemmas.Bool.{and_parts, eqb-true, false≢true}
-use Rattle.machine.specs.Run.{Step}
-use Rattle.decoder.specs.Standard.{width_of, led, Char}
-use Rattle.decoder.specs.Machine.{Reading, between, inside, is_between, begun, kept, moved, State, step, passes}
+use Rattle.std.proofs.Common.{◌≡◌, ℕ, Bool, true, false, [], ◌∷◌, ap}
+use Rattle.std.proofs.lemmas.Bool.{eqb-true, false≢true}
+use Rattle.decoder.specs.Standard.{width_of, led}
+use Rattle.decoder.specs.Machine.{Reading, between, inside, begun, kept, moved, State, step, passes}
 
 pub gives_itself : (st : State) (b : ℕ) → passes st b ≡ true → step st b ≡ record { state = st; out = (b ∷ []) ∷ [] }
 gives_itself st b h = by st.started st.reading h

@@ -1,6 +1,6 @@
 -- What a finished line does to the block of fields that is being read. No sink is in it: a line gives nothing, an event,
 -- or the mark that a limit is passed.
-use Rattle.std.specs.Prelude.{◌≡◌, ℕ, ◌-◌, Bool, true, false, cond, ◌||◌, List, [], ◌∷◌, ◌++◌, length, take, Some, None, codes, Option, ◌==◌, nat_le, refl}
+use Rattle.std.specs.Prelude.{ℕ, ◌-◌, Bool, false, cond, ◌||◌, List, [], ◌∷◌, ◌++◌, length, take, Some, None, codes, Option, ◌==◌, nat_le}
 use Rattle.decimal.specs.Decimal.{capped_number}
 use Rattle.events.specs.Event.{Event}
 use Rattle.fields.specs.Cause.{Cause, id_too_long, type_too_long, data_too_long}

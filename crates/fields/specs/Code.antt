@@ -1,5 +1,5 @@
 -- What the program's values stand for.
-use Rattle.std.specs.Prelude.{ℕ, Bool, true, false, Ok, Err, Result}
+use Rattle.std.specs.Prelude.{Bool, true, false, Ok, Err, Result}
 use Rattle.buffer.specs.Bytes.{bytes_of}
 use Rattle.fields.specs.declared.field.Field.{Field as Said}
 use Rattle.fields.specs.declared.field.Field.TheVariants.{Comment, Data, Event, Id, Retry, Other}

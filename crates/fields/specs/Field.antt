@@ -1,6 +1,6 @@
 -- The field of a line. A line that begins with a colon is a comment. Otherwise the name is what stands before the first
 -- colon, and the value what stands after it less one leading space; without a colon the line is the name, the value empty.
-use Rattle.std.specs.Prelude.{◌≡◌, ℕ, Bool, cond, List, [], ◌∷◌, codes, ◌==◌, slice_index, refl}
+use Rattle.std.specs.Prelude.{◌≡◌, ℕ, cond, List, [], ◌∷◌, codes, ◌==◌, slice_index, refl}
 use Rattle.std.specs.Str.{bytes_eq}
 
 pub data Field : Type 0 where

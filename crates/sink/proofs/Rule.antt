@@ -1,11 +1,11 @@
 -- The data of an insert is a number, a space and a number, and nothing else is.
-use Rattle.std.proofs.Common.{◌≡◌, ℕ, suc, ◌+◌, ◌<◌, ◌≤◌, Bool, true, false, cond, not, ◌&&◌, eqb, List, [], ◌∷◌, ◌++◌, length, get_or, take, drop, Some, None, Option, sym, refl, ap, ◌∙◌, ap₂, inl, inr, one-add, arith}
+use Rattle.std.proofs.Common.{◌≡◌, ℕ, suc, ◌+◌, ◌<◌, Bool, true, false, cond, not, ◌&&◌, eqb, List, [], ◌∷◌, ◌++◌, length, get_or, take, drop, Some, None, Option, sym, refl, ap, ◌∙◌, ap₂, inl, inr, one-add, arith}
 use Rattle.std.proofs.lemmas.List.{append_assoc, drop_all, drop_at, drop_more, length-append, take-append-drop, take_at}
-use Rattle.std.proofs.lemmas.Bool.{and_parts, cases_Bool, cases_lt, eqb-true}
+use Rattle.std.proofs.lemmas.Bool.{and_parts, cases_lt, eqb-true}
 use Rattle.std.proofs.lemmas.Bool.Decides.{nat_tests}
 use Rattle.decimal.specs.Decimal.{digit, all_digits, value}
 use Rattle.sink.specs.Numeral.{plain, numeral}
-use Rattle.sink.specs.Chain.{Edit, insert, insert_of, insertion, to_space}
+use Rattle.sink.specs.Chain.{insert, insert_of, insertion, to_space}
 
 chosen : (v : Bool) (m n : ℕ) → cond v (Some m) None ≡ Some n → v ≡ true
 chosen true m n e = refl

@@ -1,5 +1,5 @@
 -- The chain of effects: up to 8 codes from 0 to 63 in a row, which the events of type `insert` and `remove` edit.
-use Rattle.std.specs.Prelude.{◌≡◌, ℕ, ◌+◌, Bool, cond, not, ◌&&◌, List, [], ◌∷◌, ◌++◌, length, take, drop, Some, None, codes, Option, ◌==◌, nat_le, nat_lt, refl}
+use Rattle.std.specs.Prelude.{◌≡◌, ℕ, ◌+◌, Bool, cond, not, ◌&&◌, List, [], ◌∷◌, length, take, drop, Some, None, codes, Option, ◌==◌, nat_le, nat_lt, refl}
 use Prim.Native.String.{String}
 use Rattle.std.specs.List.{insert as inserted, remove as removed, prefix_len}
 use Rattle.std.specs.Str.{bytes_eq}

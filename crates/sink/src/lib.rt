@@ -35,9 +35,9 @@ mod tests {
         keep(&mut chain, b"insert", b"0 17")?;
         keep(&mut chain, b"insert", b"0 63")?;
         keep(&mut chain, b"insert", b"1 5")?;
-        assert!(rt; chain.codes() == [63, 5, 17]);
+        assert!(rt; chain.codes() == [63, 5, 17].as_slice());
         keep(&mut chain, b"remove", b"1")?;
-        assert!(rt; chain.codes() == [63, 17]);
+        assert!(rt; chain.codes() == [63, 17].as_slice());
         Ok(())
     }
 

@@ -1,4 +1,4 @@
-use Rattle.std.proofs.Common.{refl, arith, rules}
+use Rattle.std.proofs.Common.{refl, rules}
 use Rattle.buffer.specs.Bytes.{bytes_of}
 use Rattle.fields.proofs.Joins.{turn_is_too_long, joins}
 use Rattle.fields.proofs.lines.join.Goals as goal
@@ -8,5 +8,5 @@ returns-then-value-len c = record { bytes = refl; test = turn_is_too_long (bytes
 
 pub returns : goal.returns
 returns c =
-    let j = joins (bytes_of c.args.buffer.now) c.args.value.now (bytes_of c.append.new.self) (bytes_of c.push.new.self) _ (search rules) c.in-ok-append.ensures.bytes c.push.ensures.bytes c.push.ensures.test in
+    let j = joins (bytes_of c.args.buffer.now) c.args.value.now (bytes_of c.append.new.self) (bytes_of c.push.new.self) _ (search rules) c.in_ok-append.ensures.bytes c.push.ensures.bytes c.push.ensures.test in
     record { bytes = j.bytes; test = j.test }

@@ -1,4 +1,4 @@
-use Rattle.std.proofs.Common.{◌≡◌, ℕ, ◌<◌, ◌≤◌, List, [], ◌∷◌, ◌++◌, length, get_or, codes, refl, arith, rules}
+use Rattle.std.proofs.Common.{◌≡◌, ◌≤◌, length, get_or, codes, refl, rules}
 use Rattle.std.proofs.lemmas.List.{get_or_past}
 use Rattle.fields.proofs.Names.{At, Named, named, data_word, event_word, id_word, retry_word, with_space, without_space, name_alone, no_word, nonempty}
 use Rattle.fields.proofs.reads.field_of.Goals as goal
@@ -91,8 +91,8 @@ returns-in-114-3 c =
     let a : At (codes "retry") s 0 = search rules in
     name_alone retry_word s h a
 
-pub returns-in-default : goal.returns-in-default
-returns-in-default c =
+pub returns-in_default : goal.returns-in_default
+returns-in_default c =
     let s = c.args.line.now in
     no_word s
     (λ e. let h = nonempty s e in search rules)

@@ -1,4 +1,4 @@
-use Rattle.std.proofs.Common.{not, eqb, ap, arith, rules, eq-eqb, ne_eqb}
+use Rattle.std.proofs.Common.{not, eqb, ap, arith, eq-eqb, ne_eqb}
 use Rattle.std.proofs.lemmas.List.Sums.{prefix_len-drop_yes, prefix_len-drop_no, prefix_len-drop_all}
 use Rattle.sink.proofs.edit.space.Goals as goal
 

@@ -1,4 +1,4 @@
-use Rattle.std.proofs.Common.{refl, rules}
+use Rattle.std.proofs.Common.{refl}
 use Rattle.buffer.specs.Bytes.{bytes_of}
 use Rattle.links.proofs.Letters.{cleared}
 use Rattle.links.proofs.mailboxes.MailboxLink.clear.Goals as goal

@@ -11,5 +11,6 @@ returns c =
     record {
       count = e;
       waiting = put_letter c.set.result (box_waiting c.args.self.now) c.args.bytes.now _ (bytes_of c.set.new.self) n (n - 0) e c.if-n-eq0.false (omega arith) c.set.ensures.bytes c.set.ensures.test;
-      least = refl; serves = refl;
+      least = refl;
+      serves = refl;
     }
