@@ -3,9 +3,9 @@
 #![tactic(auto)]
 
 mod laws;
-mod lines;
+mod writing;
 mod stop;
 
 pub use laws::what_lines_say_is_read;
-pub use lines::write_lines;
+pub use writing::write_lines;
 pub use stop::{Cause, Stop};

@@ -5,14 +5,14 @@
 mod event;
 mod items;
 mod laws;
-mod lines;
+mod cutting;
 mod quoted;
 mod texts;
 
 pub use event::{EventLine, event_line};
 pub use items::{Item, first_item};
 pub use laws::what_is_quoted_is_read_back;
-pub use lines::cut_line;
+pub use cutting::cut_line;
 pub use quoted::{Unquoted, unquote};
 pub use texts::{TwoTexts, next_text, skip_blanks, two_texts};
 
@@ -26,7 +26,10 @@ mod tests {
     fn reads_an_event(rt: HostRuntime) -> Result<(), Fail> {
         match event_line(rt.alloc(), b" \"in\\x73ert\"\t\"\\\"\\\\\\n\\x00\\xfF\" ")? {
             EventLine::Event(_) => Err(Fail::new("not UTF-8, and taken")),
-            EventLine::Refused(refusal) => check_eq(refusal.number(), 4),
+            EventLine::Refused(refusal) => {
+                assert_eq!(rt; refusal.number(), 4);
+                Ok(())
+            }
             EventLine::Unreadable => Err(Fail::new("not read")),
         }?;
         match event_line(rt.alloc(), b"\"in\\x73ert\" \"\\n\"")? {

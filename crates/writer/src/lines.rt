@@ -27,7 +27,7 @@ fn first_piece(data: &[u8]) -> usize
 fn is_message(event_type: &[u8]) -> bool
     ensures { result ≡ bytes_eq event_type.now (codes "message") }
 {
-    event_type == b"message"
+    event_type == b"message".as_slice()
 }
 
 impl Window {

@@ -5,17 +5,17 @@ use Rattle.lines.specs.Code.{text_of, line_answer}
 use Rattle.lines.proofs.Ends.{ends_at_fault, ends_well}
 use Rattle.lines.proofs.text.Lines.end.Goals as goal
 
-pub returns-in-err-kept : goal.returns-in-err-kept
-returns-in-err-kept g c =
+pub returns-in_err-kept : goal.returns-in_err-kept
+returns-in_err-kept g c =
     let k = g.S.Sink in
-    let told = c.in-err-kept.ensures in
-    let p = err_from_is_err_and c.from-residual.result c.from-residual.ensures.1 in
-    let done = ends_at_fault k.refusal k.after (text_of c.args.self.now) (k.state c.args.sink.now) _ _ c.as-slice.result.now (held_of c.line.new.self) (k.state c.line.new.sink) (cause_of c.in-err-kept.field-0.0) c.as-slice.ensures told.held told.sink told.answer in
+    let told = c.in_err-kept.ensures in
+    let p = err_from_is_err_and c.from_residual.result c.from_residual.ensures.1 in
+    let done = ends_at_fault k.refusal k.after (text_of c.args.self.now) (k.state c.args.sink.now) _ _ c.as_slice.result.now (held_of c.line.new.self) (k.state c.line.new.sink) (cause_of c.in_err-kept.field-0.0) c.as_slice.ensures told.held told.sink told.answer in
     record { text = done.text; sink = done.sink; answer = ap line_answer p.1 ∙ ap (λ f. line_answer (Rattle.std.specs.declared.result.Result.TheVariants.Err f)) p.2 ∙ done.answer }
 
 pub returns : goal.returns
 returns g c =
     let k = g.S.Sink in
-    let told = c.in-ok-kept.ensures in
-    let done = ends_well k.refusal k.after (text_of c.args.self.now) (k.state c.args.sink.now) c.args.cr _ _ c.as-slice.result.now _ (held_of c.line.new.self) (k.state c.line.new.sink) c.in-ok-kept.kept c.clear.ensures c.saturating-add-self.ensures c.as-slice.ensures told.held told.sink told.answer in
+    let told = c.in_ok-kept.ensures in
+    let done = ends_well k.refusal k.after (text_of c.args.self.now) (k.state c.args.sink.now) c.args.cr _ _ c.as_slice.result.now _ (held_of c.line.new.self) (k.state c.line.new.sink) c.in_ok-kept.kept c.clear.ensures c.saturating_add-self.ensures c.as_slice.ensures told.held told.sink told.answer in
     record { text = done.text; sink = done.sink; answer = done.answer }

@@ -11,5 +11,5 @@ returns c =
     let bytes = c.args.bytes.now in
     let room = c.room-room.result in
     let v = view_of w out in
-    let view = copied v out bytes c.copy-from-slice.new.self w.at c.min-from.result _ room c.min-n.result c.room-room.ensures refl c.min-from.ensures c.min-n.ensures refl refl c.copy-from-slice.ensures.after in
+    let view = copied v out bytes c.copy_from_slice.new.self w.at c.min-from.result _ room c.min-n.result c.room-room.ensures refl c.min-from.ensures c.min-n.ensures refl refl c.copy_from_slice.ensures.after in
     record { view = view; then = λ x more e. onto_then v _ x bytes more view e }

@@ -3,7 +3,7 @@ use Rattle.script.specs.Lines.{all_lines}
 use Rattle.authoring.specs.Stream.{outcome, Wrote}
 use Rattle.authoring.proofs.Shorter.{behind_is_shorter}
 use Rattle.authoring.proofs.Steps.{one_more, stopped, ended}
-use Rattle.authoring.proofs.lines.write_lines.Goals as goal
+use Rattle.authoring.proofs.writing.write_lines.Goals as goal
 
 pub loop-rest-smaller : goal.loop-rest-smaller
 loop-rest-smaller g c =

@@ -2,7 +2,7 @@ use Rattle.std.proofs.Common.{length, vec_items}
 use Rattle.script.specs.Lines.{all_lines}
 use Rattle.authoring.specs.Stream.{outcome}
 use Rattle.authoring.proofs.Steps.{SoFar}
-use Rattle.authoring.proofs.lines.write_lines.Given as goal
+use Rattle.authoring.proofs.writing.write_lines.Given as goal
 
 abbrev pub invariant-loop-rest : goal.invariant-loop-rest
 invariant-loop-rest g l =

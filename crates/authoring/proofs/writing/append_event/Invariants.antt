@@ -2,7 +2,7 @@ use Rattle.std.proofs.Common.{◌-◌, length, vec_items}
 use Rattle.events.specs.Entry.{entry_of}
 use Rattle.writer.specs.Written.{written}
 use Rattle.authoring.proofs.Parts.{SoFar}
-use Rattle.authoring.proofs.lines.append_event.Given as goal
+use Rattle.authoring.proofs.writing.append_event.Given as goal
 
 abbrev pub invariant-loop-count : goal.invariant-loop-count
 invariant-loop-count g l =

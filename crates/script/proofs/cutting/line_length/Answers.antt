@@ -1,7 +1,7 @@
 use Rattle.std.proofs.Common.{rules}
 use Rattle.std.proofs.lemmas.Bool.{eq-eqb, ne_eqb}
 use Rattle.script.proofs.Counts.{in_a_line, counts_more, counts_here, counts_all}
-use Rattle.script.proofs.lines.line_length.Goals as goal
+use Rattle.script.proofs.cutting.line_length.Goals as goal
 
 pub loop-i-preserved : goal.loop-i-preserved
 loop-i-preserved c = counts_more in_a_line c.args.text.now c.loop-i.i c.loop-i.invariant c.loop-i-test.true (ne_eqb _ 10 c.if-byte-eq10.false)

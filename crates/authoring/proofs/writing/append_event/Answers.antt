@@ -3,7 +3,7 @@ use Rattle.std.proofs.lemmas.List.{length-append, length-take}
 use Rattle.events.specs.Entry.{entry_of}
 use Rattle.writer.specs.Written.{written}
 use Rattle.authoring.proofs.Parts.{Part, part, one_more, all}
-use Rattle.authoring.proofs.lines.append_event.Goals as goal
+use Rattle.authoring.proofs.writing.append_event.Goals as goal
 
 pub slice-bounds-part-end : goal.slice-bounds-part-end
 slice-bounds-part-end g c =
