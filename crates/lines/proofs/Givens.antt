@@ -1,5 +1,5 @@
 -- What the characters of one byte come to: none, one, or U+FFFD and one.
-use Rattle.std.proofs.Common.{◌≡◌, ℕ, ◌+◌, ◌≤◌, Bool, true, false, cond, leb, List, [], ◌∷◌, ◌++◌, length, Some, None, Option, sym, refl, ap, ◌∙◌, subst, arith}
+use Rattle.std.proofs.Common.{◌≡◌, ℕ, ◌≤◌, Bool, true, false, cond, leb, [], ◌∷◌, ◌++◌, length, None, sym, refl, ap, ◌∙◌, subst, arith}
 use Rattle.events.specs.Event.{Event}
 use Rattle.decoder.specs.Standard.{Char, replacement}
 use Rattle.fields.specs.Cause.{Cause}

@@ -1,7 +1,7 @@
 -- Reading byte by byte, from a place of a stream on.
-use Rattle.std.proofs.Common.{◌≡◌, ℕ, zero, suc, ◌+◌, ◌≤◌, Bool, true, false, cond, List, [], ◌∷◌, ◌++◌, Some, None, Ok, Err, Option, sym, refl, ap, ◌∙◌, subst, add-zero, add_assoc, zero-add, arith}
+use Rattle.std.proofs.Common.{◌≡◌, ℕ, zero, suc, ◌+◌, ◌≤◌, Bool, true, false, cond, List, [], ◌∷◌, Some, None, Ok, Option, sym, refl, ap, ◌∙◌, subst, add-zero, add_assoc, zero-add, arith}
 use Rattle.events.specs.Event.{Event}
-use Rattle.fields.specs.Hand.{Answer, quiet, kept, faulted}
+use Rattle.fields.specs.Hand.{faulted}
 use Rattle.lines.specs.Reader.{Fault, Reader, reading, stopped, fault_of, Pushed, push, reads}
 use Rattle.lines.specs.declared.fault.Fault.{Fault as Stop}
 use Rattle.lines.specs.declared.reader.Reader.{Reader as Board}

@@ -4,7 +4,7 @@ use Rattle.events.specs.Event.{Event}
 use Rattle.decoder.specs.Standard.{Char}
 use Rattle.decoder.specs.Machine as decoder
 use Rattle.fields.specs.Cause.{Cause}
-use Rattle.fields.specs.Hand.{Answer, quiet, kept, faulted}
+use Rattle.fields.specs.Hand.{Answer, faulted}
 use Rattle.lines.specs.Text.{Text, counted, Ran, hand_chars}
 use Rattle.lines.specs.Reader.{Fault, Reading, Reader, reading, stopped, fault_of, Pushed, placed, push}
 use Rattle.lines.specs.Code.{line_answer, byte_answer, answered, most}

@@ -1,5 +1,5 @@
 -- What the program's values stand for.
-use Rattle.std.specs.Prelude.{ℕ, zero, suc, Bool, true, false, List, Some, None, Ok, Err, Option, Result}
+use Rattle.std.specs.Prelude.{ℕ, zero, suc, Bool, true, false, Some, None, Ok, Err, Option, Result}
 use Rattle.buffer.specs.Bytes.{bytes_of}
 use Rattle.decoder.specs.Code.{state_of}
 use Rattle.fields.specs.Cause as cause

@@ -3,7 +3,7 @@ use Rattle.std.specs.Prelude.{ℕ, ◌+◌, List, [], ◌∷◌, Some, None, Opt
 use Rattle.events.specs.Event.{Event}
 use Rattle.decoder.specs.Machine as decoder
 use Rattle.fields.specs.Cause.{Cause}
-use Rattle.fields.specs.Block.{Held, unread}
+use Rattle.fields.specs.Block.{unread}
 use Rattle.lines.specs.Text.{Text, begun, counted, Ran, hand_chars}
 
 -- A fault: why, in which line from 1, and at which byte of the stream from 0.

@@ -98,7 +98,7 @@ mod tests {
         }
         let ninth = reader.read(b"id:9\nevent:insert\ndata:0 1\n\n", &mut chain);
         stopped(&rt, ninth.fault, b"sink", [28, 36, 251])?;
-        assert!(rt; reader.last_id() == b"8");
+        assert!(rt; reader.last_id() == b"8".as_slice());
         let again = reader.read(b"data\n\n", &mut chain);
         assert!(rt; again.kept == 0);
         stopped(&rt, again.fault, b"sink", [28, 36, 251])

@@ -32,7 +32,8 @@ mod tests {
         let mut transcript = Transcript::new(rt.alloc())?;
         keep(&mut transcript, b"a \"b\"\\\r\n\t\xff~")?;
         assert!(rt;
-            transcript.text() == b"event \"7\" \"say\" \"a \\\"b\\\"\\\\\\r\\n\\x09\\xff~\"\n"
+            transcript.text()
+                == b"event \"7\" \"say\" \"a \\\"b\\\"\\\\\\r\\n\\x09\\xff~\"\n".as_slice()
         );
         transcript.clear();
         assert!(rt; transcript.text().is_empty());

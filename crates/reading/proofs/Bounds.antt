@@ -1,14 +1,13 @@
 -- Limits, one line or one character longer.
-use Rattle.std.proofs.Common.{◌≡◌, ℕ, ◌+◌, ◌<◌, ◌≤◌, Bool, true, false, cond, ◌||◌, eqb, ltb, List, [], ◌∷◌, ◌++◌, length, Some, None, Option, sym, refl, ap, ◌∙◌, subst, append_assoc, append-nil, arith}
+use Rattle.std.proofs.Common.{◌≡◌, ℕ, Bool, true, false, cond, ◌||◌, eqb, ltb, List, [], ◌∷◌, ◌++◌, length, Some, None, Option, sym, refl, ap, ◌∙◌}
 use Rattle.std.proofs.lemmas.Bool.{or_parts, or_from, or_left, or_right, ltb-false, le-ltb, lt-ltb, eq-eqb, ne_eqb}
 use Rattle.events.specs.Event.{Event}
 use Rattle.decoder.specs.Standard.{Char}
 use Rattle.fields.specs.Cause.{Cause, line_too_long, id_too_long, type_too_long, data_too_long, refused_by_sink}
-use Rattle.fields.specs.Field.{field_of}
-use Rattle.reading.specs.Lines.{lines, unfinished}
-use Rattle.reading.specs.Blocks.{Line, Blocks, parted, datas}
+use Rattle.reading.specs.Lines.{lines}
+use Rattle.reading.specs.Blocks.{Line, parted}
 use Rattle.reading.specs.Standard.{events_of}
-use Rattle.reading.specs.Limits.{any, long_line, over_id, long_id, over_type, long_type, data_of_block, over_data, long_data, cause_if, through, refused_in, over_text}
+use Rattle.reading.specs.Limits.{any, long_line, long_id, long_type, long_data, cause_if, through, refused_in, over_text}
 use Rattle.reading.proofs.Lists.{any_append}
 
 abbrev pub long : Line → Bool

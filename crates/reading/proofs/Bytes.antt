@@ -1,16 +1,16 @@
 -- One byte more, with the characters that it gives: none, one, or U+FFFD and one.
-use Rattle.std.proofs.Common.{◌≡◌, ℕ, ◌+◌, ◌<◌, ◌≤◌, min, Bool, true, false, cond, ltb, leb, List, [], ◌∷◌, ◌++◌, length, Some, None, Option, sym, refl, ap, ◌∙◌, subst, append_assoc, append-nil, arith, length-append}
-use Rattle.std.proofs.lemmas.Bool.{cond_both, ltb-true, lt-ltb}
-use Rattle.machine.specs.Run.{Step, also, run}
+use Rattle.std.proofs.Common.{◌≡◌, ℕ, ◌+◌, ◌<◌, Bool, true, false, cond, leb, List, [], ◌∷◌, ◌++◌, length, Some, None, Option, sym, refl, ap, ◌∙◌, subst, append_assoc, append-nil, arith, length-append}
+use Rattle.std.proofs.lemmas.Bool.{cond_both, lt-ltb}
+use Rattle.machine.specs.Run.{Step, run}
 use Rattle.machine.proofs.Laws.{run_append}
 use Rattle.events.specs.Event.{Event}
 use Rattle.decoder.specs.Standard.{Range, lies, Lead, lead, stray, lead_of, Char, replacement, is_mark, chars}
 use Rattle.decoder.specs.Machine.{Reading, between, inside, wanting, begun, advance, kept, State, fresh, step}
 use Rattle.decoder.proofs.Whole.{chars_so_far}
-use Rattle.fields.specs.Cause.{Cause, line_too_long}
+use Rattle.fields.specs.Cause.{Cause}
 use Rattle.fields.specs.Hand as hand
 use Rattle.fields.specs.Hand.{Answer, Handed}
-use Rattle.lines.specs.Line.{Line, is_lf, is_cr, Turn, goes_on, too_long}
+use Rattle.lines.specs.Line.{Line, is_lf, is_cr, goes_on, too_long}
 use Rattle.lines.specs.Text.{Text, Ran, resumed, hand_turn, hand_char, hand_chars}
 use Rattle.reading.specs.Lines.{lines, unfinished}
 use Rattle.reading.specs.Blocks as blocks

@@ -1,14 +1,13 @@
 -- The laws of line ends and of unfinished blocks.
-use Rattle.std.proofs.Common.{◌≡◌, ℕ, zero, suc, Bool, true, false, cond, ◌||◌, List, [], ◌∷◌, ◌++◌, map, sym, refl, ap, ◌∙◌, subst, append_assoc, append-nil}
-use Rattle.std.specs.List.{flat_map}
+use Rattle.std.proofs.Common.{◌≡◌, ℕ, zero, false, cond, ◌||◌, List, [], ◌∷◌, ◌++◌, sym, refl, ap, ◌∙◌, append_assoc, append-nil}
 use Rattle.std.proofs.lemmas.Bool.{or_parts, false≢true}
 use Rattle.decoder.specs.Standard.{Char, text}
 use Rattle.lines.specs.Line.{is_lf, is_cr}
-use Rattle.reading.specs.Lines.{End, within, ends, feeds, end_at, lines_after, lines}
-use Rattle.reading.specs.Blocks.{Line, Blocks, parted_after, parted, events_from, last_id_after}
-use Rattle.reading.specs.Standard.{Before, lines_of, events_of}
+use Rattle.reading.specs.Lines.{within, ends, feeds, lines_after}
+use Rattle.reading.specs.Blocks.{Line, parted_after, events_from, last_id_after}
+use Rattle.reading.specs.Standard.{lines_of}
 use Rattle.reading.specs.Limits.{any}
-use Rattle.reading.specs.Laws.{LineEnd, lf, crlf, cr, end_chars, with_ends, has_end, blank, AddsNothing, LineEndsMayBeExchanged, UnfinishedBlocksAreDropped, WithoutABlankLineNothingIsKept, AFirstMarkIsDropped}
+use Rattle.reading.specs.Laws.{LineEnd, lf, crlf, cr, end_chars, with_ends, has_end, blank, LineEndsMayBeExchanged, UnfinishedBlocksAreDropped, WithoutABlankLineNothingIsKept, AFirstMarkIsDropped}
 
 -- characters that end no line join it
 joins : (cs rest : List Char) (line : List ℕ) → has_end cs ≡ false → lines_after 0 line (cs ++ rest) ≡ lines_after 0 (line ++ text cs) rest

@@ -1,12 +1,12 @@
 -- The end of a line: a field joins its block, or a blank line ends it.
-use Rattle.std.proofs.Common.{◌≡◌, ℕ, ◌+◌, ◌<◌, ◌≤◌, min, Bool, true, false, cond, eqb, ltb, List, [], ◌∷◌, ◌++◌, length, sym, refl, ap, ◌∙◌, subst, append_assoc, append-nil, arith}
+use Rattle.std.proofs.Common.{◌≡◌, ℕ, ◌+◌, Bool, true, false, cond, eqb, ltb, List, [], ◌∷◌, ◌++◌, length, sym, refl, ap, ◌∙◌, subst, append-nil}
 use Rattle.std.proofs.lemmas.Bool.{eqb-true, eqb-false}
 use Rattle.events.specs.Event.{Event}
 use Rattle.decoder.specs.Standard.{Char}
-use Rattle.fields.specs.Cause.{Cause, refused_by_sink}
+use Rattle.fields.specs.Cause.{refused_by_sink}
 use Rattle.fields.specs.Field.{Field, field_of}
-use Rattle.fields.specs.Block.{Held, Outcome, Said, moved, emptied, said, blank_outcome}
-use Rattle.fields.specs.Hand.{Answer, quiet, kept, faulted, Handed, hand}
+use Rattle.fields.specs.Block.{Held, Outcome, Said, moved}
+use Rattle.fields.specs.Hand.{kept, faulted, Handed}
 use Rattle.lines.specs.Line.{Line, Turn, goes_on, ended, too_long, turn}
 use Rattle.lines.specs.Text.{Text, refused, hand_turn, hand_char}
 use Rattle.reading.specs.Lines.{lines}
@@ -21,7 +21,7 @@ use Rattle.reading.proofs.Sayings.{buffer, holds, held_after, joined_by, Says, s
 use Rattle.reading.proofs.Sayings as sayings
 use Rattle.reading.proofs.Blanks.{parted_blank, parted_line, held_line, events_line, held_blank, events_blank, outcome_of, blank_gives}
 use Rattle.reading.proofs.Bounds.{push_false, push_true, first_parts, through_push, refused_push, Fits, line_is_over, id_is_over, type_is_over, data_is_over, sink_is_over}
-use Rattle.reading.proofs.Steps.{text_after, sink_after, Goes, Halts, Stepped, turn_goes_on, turn_is_too_long, text_with, more_lines, line_fits, ids_fit, types_fit, taken, halts, fits_built}
+use Rattle.reading.proofs.Steps.{text_after, sink_after, Goes, Stepped, turn_goes_on, turn_is_too_long, text_with, more_lines, line_fits, ids_fit, types_fit, taken, halts, fits_built}
 
 -- no event or one
 data Few : List Event → Type 0 where

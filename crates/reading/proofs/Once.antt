@@ -7,7 +7,7 @@ use Rattle.fields.specs.Cause.{Cause}
 use Rattle.lines.specs.Reader.{Reader}
 use Rattle.reading.specs.Standard.{Before, lines_of}
 use Rattle.reading.specs.Limits.{over}
-use Rattle.reading.specs.Outcome.{capped, Within, Stands, ReadWhole, ReadToFault, Outcome, whole, to_fault}
+use Rattle.reading.specs.Outcome.{capped, Within, Stands, ReadWhole, ReadToFault, whole, to_fault}
 use Rattle.reading.specs.Laws.{Agree, AStreamHasOneOutcome}
 
 apart : {C : Type 0} {o : Option C} {c : C} → o ≡ None → o ≡ Some c → ⊥

@@ -1,16 +1,14 @@
 -- What a finished line does to the block that is being read is what the standard says of the lines with it.
-use Rattle.std.proofs.Common.{◌≡◌, ℕ, ◌+◌, ◌-◌, ◌<◌, ◌≤◌, Bool, true, false, cond, ltb, leb, List, [], ◌∷◌, ◌++◌, length, take, Some, None, Option, sym, refl, ap, ◌∙◌, subst, append_assoc, append-nil, arith, length-append}
+use Rattle.std.proofs.Common.{◌≡◌, ℕ, Bool, true, false, cond, ltb, leb, List, [], ◌∷◌, ◌++◌, length, Some, None, Option, refl, ap, ◌∙◌, subst, append-nil}
 use Rattle.std.specs.List.{flat_map}
-use Rattle.std.proofs.lemmas.List.{take_at}
 use Rattle.std.proofs.lemmas.Bool.{cond_both, leb-true, leb-false, le-ltb, lt-ltb}
 use Rattle.decimal.specs.Decimal.{capped_number}
-use Rattle.events.specs.Event.{Event}
 use Rattle.fields.specs.Cause.{id_too_long, type_too_long, data_too_long}
-use Rattle.fields.specs.Field.{Field, comment, other, data_field, event_field, id_field, retry_field, field_of}
-use Rattle.fields.specs.Block.{Held, Outcome, nothing, event, Said, quietly, past, time_said, has_nul, says, typed, block_event, moved, blank_outcome, said}
-use Rattle.reading.specs.Blocks.{Line, data_of, type_of, id_of, times_of, time_of, datas, types, ids, times, last_or, between, Blocks, parted_after, parted, event_with, events_from, id_after, last_id_after}
-use Rattle.reading.specs.Standard.{Before, events_of, last_id_of, retry_of}
-use Rattle.reading.specs.Limits.{over_id, over_type, data_of_block, over_data}
+use Rattle.fields.specs.Field.{Field, comment, other, data_field, event_field, id_field, retry_field}
+use Rattle.fields.specs.Block.{Held, Said, quietly, past, time_said, has_nul, says}
+use Rattle.reading.specs.Blocks.{Line, data_of, type_of, id_of, times_of, time_of, datas, types, ids, times, last_or, parted, id_after, last_id_after}
+use Rattle.reading.specs.Standard.{Before}
+use Rattle.reading.specs.Limits.{over_id, over_type}
 use Rattle.reading.proofs.Lists.{joined_push, last_append}
 
 -- the data buffer for values

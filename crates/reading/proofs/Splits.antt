@@ -1,11 +1,11 @@
 -- Lines, character by character: the machine that builds them gives the lines of the whole text.
-use Rattle.std.proofs.Common.{◌≡◌, ℕ, zero, suc, ◌<◌, ◌≤◌, Bool, true, false, cond, leb, List, [], ◌∷◌, ◌++◌, length, sym, refl, ap, ◌∙◌, append-nil, arith}
+use Rattle.std.proofs.Common.{◌≡◌, ℕ, zero, ◌<◌, ◌≤◌, Bool, true, false, cond, leb, List, [], ◌∷◌, ◌++◌, length, sym, refl, ap, ◌∙◌, append-nil}
 use Rattle.std.proofs.lemmas.Bool.{leb-true, leb-false}
 use Rattle.machine.specs.Run.{Step, run}
 use Rattle.machine.proofs.Laws.{run_append}
 use Rattle.decoder.specs.Standard.{Char}
-use Rattle.lines.specs.Line.{Line, no_line, is_lf, is_cr, Turn, goes_on, ended, too_long, at_lf, longer, turn}
-use Rattle.reading.specs.Lines.{End, within, ends, feeds, end_at, lines_after, lines, rest_after, unfinished}
+use Rattle.lines.specs.Line.{Line, no_line, is_lf, is_cr, Turn, goes_on, ended, too_long, at_lf, turn}
+use Rattle.reading.specs.Lines.{within, ends, feeds, lines_after, lines, rest_after, unfinished}
 
 -- one character, whatever the line's length
 abbrev pub fed : Bool → List ℕ → Step Line (List ℕ)

@@ -1,25 +1,23 @@
 -- One character more: the reader's text and sink stand as the standard has it for the text with it, or it is over a limit.
-use Rattle.std.proofs.Common.{◌≡◌, ℕ, ◌+◌, ◌<◌, ◌≤◌, min, Bool, true, false, cond, eqb, ltb, List, [], ◌∷◌, ◌++◌, length, Some, None, sym, refl, ap, ◌∙◌, subst, append_assoc, append-nil, arith, length-append}
-use Rattle.std.proofs.lemmas.Bool.{ltb-false, le-ltb, lt-ltb, eqb-true, eqb-false}
+use Rattle.std.proofs.Common.{◌≡◌, ℕ, ◌+◌, ◌<◌, ◌≤◌, true, false, List, [], ◌∷◌, ◌++◌, length, Some, sym, refl, ap, ◌∙◌, append-nil, arith, length-append}
+use Rattle.std.proofs.lemmas.Bool.{ltb-false, le-ltb, lt-ltb}
 use Rattle.events.specs.Event.{Event}
 use Rattle.decoder.specs.Standard.{Char}
-use Rattle.fields.specs.Cause.{Cause, line_too_long, id_too_long, type_too_long, data_too_long, refused_by_sink}
+use Rattle.fields.specs.Cause.{Cause}
 use Rattle.fields.specs.Field.{field_of}
-use Rattle.fields.specs.Block.{Held, Outcome, nothing, event, over, Said, moved, emptied, said, says, blank_outcome}
+use Rattle.fields.specs.Block.{Held, Said}
 use Rattle.fields.specs.Hand.{Answer, quiet, kept, faulted, Handed, hand}
-use Rattle.lines.specs.Line.{Line, Turn, goes_on, ended, too_long, turn}
-use Rattle.lines.specs.Text.{Text, counted, refused, turned, hand_turn, hand_char}
+use Rattle.lines.specs.Line.{Line}
+use Rattle.lines.specs.Text.{Text, counted, refused}
 use Rattle.reading.specs.Lines.{lines, unfinished}
 use Rattle.reading.specs.Blocks as blocks
 use Rattle.reading.specs.Blocks.{parted, event_with, last_or, id_after, last_id_after, ids, types, datas, times}
 use Rattle.reading.specs.Standard.{Before, events_of}
-use Rattle.reading.specs.Limits.{any, long_line, over_id, long_id, over_type, long_type, over_data, long_data, through, refused_in, over_text}
+use Rattle.reading.specs.Limits.{any, long_line, over_id, long_id, over_type, long_type, long_data, through, refused_in, over_text}
 use Rattle.reading.specs.Outcome.{capped}
-use Rattle.reading.proofs.Splits.{split, line_after, built_is_unfinished, Grows, grows, Told, told}
-use Rattle.reading.proofs.Sayings.{buffer, holds, held_after, joined_by, Says, fine, says_told}
-use Rattle.reading.proofs.Sayings as sayings
-use Rattle.reading.proofs.Blanks.{parted_blank, parted_line, held_line, events_line, held_blank, events_blank, outcome_of, blank_gives}
-use Rattle.reading.proofs.Bounds.{long, push_false, push_true, first_parts, still_true, through_push, refused_push, Fits, line_is_over, id_is_over, type_is_over, data_is_over, sink_is_over}
+use Rattle.reading.proofs.Splits.{split, line_after, built_is_unfinished, grows}
+use Rattle.reading.proofs.Sayings.{held_after}
+use Rattle.reading.proofs.Bounds.{long, push_false, push_true, first_parts, Fits}
 
 module _ {X : Type 0} (refusal : X → Event → ℕ) (after : X → Event → X) (w : Before) (x : X) where
   -- where the reader stands after a text that is within the limits

@@ -1,5 +1,5 @@
 -- Reading a stream byte by byte comes to what the standard and the limits say of the whole stream.
-use Rattle.std.proofs.Common.{◌≡◌, ℕ, ◌+◌, ◌<◌, ◌≤◌, min, List, [], ◌∷◌, ◌++◌, length, take, Some, None, Option, sym, refl, ap, ◌∙◌, subst, ⊎_elim, append_assoc, append-nil, arith, length-append}
+use Rattle.std.proofs.Common.{◌≡◌, ℕ, ◌+◌, ◌<◌, ◌≤◌, List, [], ◌∷◌, ◌++◌, length, take, Some, None, Option, sym, refl, ap, ◌∙◌, subst, ⊎_elim, append_assoc, append-nil, arith, length-append}
 use Rattle.std.proofs.lemmas.List.{take_at, take_all, take-append-le}
 use Rattle.std.proofs.lemmas.Bool.{cases_lt}
 use Rattle.machine.specs.Run.{run}
@@ -9,16 +9,15 @@ use Rattle.decoder.specs.Standard.{Char, chars}
 use Rattle.decoder.specs.Machine.{fresh, step}
 use Rattle.fields.specs.Cause.{Cause}
 use Rattle.lines.specs.Text.{Ran, counted, hand_chars}
-use Rattle.lines.specs.Reader.{Fault, Reading, Reader, reading, stopped, fault_of, restarted, Pushed, placed, push, reads}
+use Rattle.lines.specs.Reader.{Fault, Reading, Reader, reading, stopped, restarted, Pushed, placed, push, reads}
 use Rattle.lines.proofs.Pieces.{stopped_stays}
-use Rattle.reading.specs.Lines.{lines}
 use Rattle.reading.specs.Standard.{Before, lines_of}
 use Rattle.reading.specs.Limits.{over}
 use Rattle.reading.specs.Outcome.{capped, Within, Stands, Outcome, whole, to_fault, HasRead}
 use Rattle.reading.proofs.Sayings.{held_after}
 use Rattle.reading.proofs.Bounds.{Fits, fits_is_within}
 use Rattle.reading.proofs.Steps.{text_after, sink_after, Goes}
-use Rattle.reading.proofs.Bytes.{gives_few, chars_push, Off, Came, characters}
+use Rattle.reading.proofs.Bytes.{gives_few, chars_push, Came, characters}
 
 -- no part of a stream is over a limit, and one byte more is not either
 within_more : {C : Type 0} (o : List ℕ → Option C) (p : List ℕ) (b : ℕ) → ((n : ℕ) → n ≤ length p → o (take n p) ≡ None) → o (p ++ b ∷ []) ≡ None → (n : ℕ) → n ≤ length (p ++ b ∷ []) → o (take n (p ++ b ∷ [])) ≡ None

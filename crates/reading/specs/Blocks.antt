@@ -1,5 +1,5 @@
 -- What lines say: blocks, each ended by a blank line, and their events.
-use Rattle.std.specs.Prelude.{◌≡◌, ℕ, cond, List, [], ◌∷◌, ◌++◌, Some, None, codes, Option, refl}
+use Rattle.std.specs.Prelude.{ℕ, cond, List, [], ◌∷◌, ◌++◌, Some, None, Option}
 use Rattle.std.specs.List.{flat_map}
 use Rattle.decimal.specs.Decimal.{capped_number}
 use Rattle.events.specs.Event.{Event}

@@ -8,7 +8,7 @@ use Rattle.lines.specs.Reader as reader
 use Rattle.lines.specs.Reader.{Reader, fault_of}
 use Rattle.reading.specs.Lines.{lines}
 use Rattle.reading.specs.Blocks.{Line}
-use Rattle.reading.specs.Standard.{Before, lines_of, events_of, last_id_of, retry_of}
+use Rattle.reading.specs.Standard.{Before, lines_of, events_of, last_id_of}
 use Rattle.reading.specs.Limits.{any}
 use Rattle.reading.specs.Outcome.{Outcome}
 

@@ -1,5 +1,5 @@
 -- When a stream so far is over a limit of ours, and with which cause.
-use Rattle.std.specs.Prelude.{ℕ, Bool, true, false, cond, ◌||◌, ltb, List, [], ◌∷◌, ◌++◌, length, Some, None, Option, ◌==◌, nat_lt}
+use Rattle.std.specs.Prelude.{ℕ, Bool, false, cond, ◌||◌, ltb, List, [], ◌∷◌, ◌++◌, length, Some, None, Option, ◌==◌, nat_lt}
 use Rattle.std.specs.List.{flat_map}
 use Rattle.events.specs.Event.{Event}
 use Rattle.decoder.specs.Standard.{Char, chars}

@@ -1,5 +1,5 @@
 -- What reading a stream comes to, by the standard and the limits: all of it, or up to the first byte that takes it over a limit.
-use Rattle.std.specs.Prelude.{◌≡◌, ℕ, ◌+◌, ◌<◌, ◌≤◌, min, List, [], ◌∷◌, ◌++◌, length, take, Some, None}
+use Rattle.std.specs.Prelude.{◌≡◌, ℕ, ◌+◌, ◌<◌, ◌≤◌, min, List, length, take, Some, None}
 use Rattle.events.specs.Event.{Event}
 use Rattle.fields.specs.Cause.{Cause}
 use Rattle.lines.specs.Reader.{Fault, Reader, Pushed, fault_of, restarted, reads}

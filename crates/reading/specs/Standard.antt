@@ -1,7 +1,7 @@
 -- What a stream means, over the whole stream and without limits, as the HTML standard has it: decode, lines, fields, blocks.
-use Rattle.std.specs.Prelude.{◌≡◌, ℕ, List, [], ◌∷◌, ◌++◌, codes, refl}
+use Rattle.std.specs.Prelude.{◌≡◌, ℕ, List, [], ◌∷◌, codes, refl}
 use Rattle.events.specs.Event.{Event}
-use Rattle.decoder.specs.Standard.{Char, chars}
+use Rattle.decoder.specs.Standard.{chars}
 use Rattle.reading.specs.Lines.{lines}
 use Rattle.reading.specs.Blocks.{Line, times, last_or, parted, events_from, last_id_after}
 

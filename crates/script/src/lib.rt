@@ -34,7 +34,7 @@ mod tests {
         }?;
         match event_line(rt.alloc(), b"\"in\\x73ert\" \"\\n\"")? {
             EventLine::Event(entry) => {
-                assert!(rt; entry.event_type() == b"insert" && entry.data() == b"\n");
+                assert!(rt; entry.event_type() == b"insert".as_slice() && entry.data() == b"\n".as_slice());
                 Ok(())
             },
             _ => Err(Fail::new("no event")),
@@ -65,6 +65,6 @@ mod tests {
         let (first, rest) = cut_line(b"a\n\nb");
         let (second, rest) = cut_line(rest);
         let (third, rest) = cut_line(rest);
-        assert!(rt; first == b"a" && second == b"" && third == b"b" && rest == b"");
+        assert!(rt; first == b"a".as_slice() && second == b"".as_slice() && third == b"b".as_slice() && rest == b"".as_slice());
     }
 }

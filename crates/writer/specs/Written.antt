@@ -1,6 +1,6 @@
 -- What a sender writes. An event is its id line, its event line unless the type is `message`, a data line for each piece of its data between LFs, and
 -- a blank line. Each line ends as the sender ends its lines.
-use Rattle.std.specs.Prelude.{◌≡◌, ℕ, cond, List, [], ◌∷◌, ◌++◌, length, codes, decimal, ◌==◌, refl}
+use Rattle.std.specs.Prelude.{◌≡◌, ℕ, cond, List, [], ◌∷◌, ◌++◌, codes, decimal, ◌==◌, refl}
 use Rattle.std.specs.List.{flat_map}
 use Rattle.std.specs.Fmt.{digits}
 use Rattle.std.specs.Str.{bytes_eq}

@@ -22,7 +22,7 @@ mod tests {
             Ok(event) => {
                 assert_eq!(rt; write_event(LineEnd::CrLf, b"1B", &event, 0, &mut out), 37);
                 assert_eq!(rt; write_event(LineEnd::Lf, b"1B", &event, 0, &mut out), 33);
-                assert!(rt; &out[0..33] == b"id: 1B\nevent: insert\ndata: 0 17\n\n");
+                assert!(rt; &out[0..33] == b"id: 1B\nevent: insert\ndata: 0 17\n\n".as_slice());
                 assert_eq!(rt; write_event(LineEnd::Lf, b"1B", &event, 30, &mut end), 3);
                 assert!(rt; end == *b"7\n\n.....");
                 Ok(())

@@ -1,4 +1,4 @@
-use Rattle.std.proofs.Common.{take, sym, refl, ap, ◌∙◌, subst}
+use Rattle.std.proofs.Common.{take, sym, refl, ap, subst}
 use Rattle.std.specs.List.{flat_map}
 use Rattle.std.proofs.lemmas.List.{take_all}
 use Rattle.lines.specs.Code.{reader_of}
@@ -17,9 +17,9 @@ loop-piece-preserved g c =
     let ps = c.args.pieces.now in
     let i = c.loop-piece.piece-index in
     let x = k.state c.args.sink.now in
-    subst (λ s. HasRead k.refusal k.after new x s (reader_of c.read-on.new.reader) (k.state c.read-on.new.sink))
+    subst (λ s. HasRead k.refusal k.after new x s (reader_of c.read_on.new.reader) (k.state c.read_on.new.sink))
     (sym (joined_next (λ p. p.now) ps i _ c.loop-piece-test.true))
-    (c.read-on.ensures.joins new x (flat_map (λ p. p.now) (take i ps)) c.loop-piece.invariant)
+    (c.read_on.ensures.joins new x (flat_map (λ p. p.now) (take i ps)) c.loop-piece.invariant)
 
 pub returns : goal.returns
 returns g c =

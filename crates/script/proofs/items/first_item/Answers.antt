@@ -8,4 +8,4 @@ returns-in-92 c =
     let s = c.args.text.now in
     let h : 1 ≤ length s = search rules in
     let e : get_or s 0 0 ≡ 92 = search rules in
-    c.marked-item.ensures ∙ sym (begins item_of s 92 h e)
+    c.marked_item.ensures ∙ sym (begins item_of s 92 h e)

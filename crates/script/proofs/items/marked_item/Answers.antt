@@ -8,4 +8,4 @@ returns-in-120 c =
     let s = c.args.rest.now in
     let h : 1 ≤ length s = search rules in
     let e : get_or s 0 0 ≡ 120 = search rules in
-    c.hex-item.ensures ∙ sym (begins marked_item s 120 h e)
+    c.hex_item.ensures ∙ sym (begins marked_item s 120 h e)

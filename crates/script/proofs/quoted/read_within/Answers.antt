@@ -4,11 +4,11 @@ use Rattle.script.specs.Unquoted.{within}
 use Rattle.script.proofs.Within.{byte_lies, read_more, read_all, read_none}
 use Rattle.script.proofs.quoted.read_within.Goals as goal
 
-pub slice-bounds-rest-count : goal.slice-bounds-rest-count
-slice-bounds-rest-count c = (byte_lies c.loop-byte.rest.now c.in-Byte.byte c.in-Byte.length c.in-Byte.ensures).1
+pub slice_bounds-rest-count : goal.slice_bounds-rest-count
+slice_bounds-rest-count c = (byte_lies c.loop-byte.rest.now c.in-Byte.byte c.in-Byte.length c.in-Byte.ensures).1
 
-pub slice-bounds-rest-start : goal.slice-bounds-rest-start
-slice-bounds-rest-start c = let h = byte_lies c.loop-byte.rest.now c.in-Byte.byte c.in-Byte.length c.in-Byte.ensures in search rules
+pub slice_bounds-rest-start : goal.slice_bounds-rest-start
+slice_bounds-rest-start c = let h = byte_lies c.loop-byte.rest.now c.in-Byte.byte c.in-Byte.length c.in-Byte.ensures in search rules
 
 pub loop-byte-smaller : goal.loop-byte-smaller
 loop-byte-smaller c =
@@ -17,7 +17,7 @@ loop-byte-smaller c =
 
 pub loop-byte-preserved : goal.loop-byte-preserved
 loop-byte-preserved c =
-    read_more (within 0 c.args.inner.now) (vec_items c.loop-byte.bytes) c.loop-byte.rest.now c.loop-byte.invariant c.in-Byte.byte c.in-Byte.length (vec_items c.push.new.self) c.in-Byte.ensures c.in-ok-push.ensures.items
+    read_more (within 0 c.args.inner.now) (vec_items c.loop-byte.bytes) c.loop-byte.rest.now c.loop-byte.invariant c.in-Byte.byte c.in-Byte.length (vec_items c.push.new.self) c.in-Byte.ensures c.in_ok-push-in-Byte.ensures.items
 
 pub returns-in-Close : goal.returns-in-Close
 returns-in-Close c = read_all (within 0 c.args.inner.now) (vec_items c.loop-byte.bytes) c.loop-byte.rest.now c.loop-byte.invariant c.in-Close.ensures

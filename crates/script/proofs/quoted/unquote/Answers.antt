@@ -11,8 +11,8 @@ returns-in-34 c =
     let s = c.args.text.now in
     let h : 1 ≤ length s = search rules in
     let e : get_or s 0 0 ≡ 34 = search rules in
-    IfOk-weaker c.read-within.result
+    IfOk-weaker c.read_within.result
     (λ o. option_map reading_of o ≡ within 0 (take (length s - 1) (drop 1 s)))
     (λ o. option_map reading_of o ≡ unquoted s)
     (λ o p. p ∙ sym (begins unquoted s 34 h e))
-    c.read-within.ensures
+    c.read_within.ensures

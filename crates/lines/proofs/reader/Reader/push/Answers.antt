@@ -1,7 +1,7 @@
-use Rattle.std.proofs.Common.{◌≡◌, Ok, ap, ◌∙◌}
+use Rattle.std.proofs.Common.{Ok, ap, ◌∙◌}
 use Rattle.decoder.specs.Code.{state_of}
 use Rattle.lines.specs.Reader.{Reading, reading}
-use Rattle.lines.specs.Code.{text_of, standing, reader_of, line_cause, fault_said, byte_answer}
+use Rattle.lines.specs.Code.{text_of, standing, reader_of, line_cause, byte_answer}
 use Rattle.lines.proofs.Places.{from_reading, turn_goes_on, stops}
 use Rattle.lines.proofs.reader.Reader.push.Goals as goal
 

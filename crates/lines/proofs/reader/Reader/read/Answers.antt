@@ -1,7 +1,7 @@
-use Rattle.std.proofs.Common.{◌≡◌, ℕ, ◌+◌, ◌≤◌, Bool, cond, List, ◌∷◌, get_or, drop, sym, ap, ◌∙◌, subst, arith}
+use Rattle.std.proofs.Common.{◌≡◌, ◌+◌, ◌≤◌, cond, ◌∷◌, get_or, drop, sym, ap, ◌∙◌, subst, arith}
 use Rattle.std.proofs.lemmas.List.{drop_more, drop_all}
-use Rattle.lines.specs.Reader.{fault_of, Pushed, push, reads}
-use Rattle.lines.specs.Code.{reader_of, fault_said, faults_said, standing}
+use Rattle.lines.specs.Reader.{fault_of, push, reads}
+use Rattle.lines.specs.Code.{reader_of, fault_said}
 use Rattle.lines.proofs.Pieces.{Leads, one_more, at_fault, ends, told_kept, told_fault, counted_on, stands}
 use Rattle.lines.proofs.reader.Reader.read.Goals as goal
 use Rattle.lines.proofs.reader.Reader.read.Goals.{then-event, else-event}

@@ -10,7 +10,7 @@ loop-byte-init c = sym (clip_nothing (text_of c.put.new.self))
 
 pub loop-byte-preserved : goal.loop-byte-preserved
 loop-byte-preserved c =
-    clip_each escaped (text_of c.put.new.self) (text_of c.loop-byte.self) (text_of c.put-escaped.new.self) c.args.bytes.now c.loop-byte.byte-index c.loop-byte.invariant c.loop-byte-test.true c.put-escaped.ensures
+    clip_each escaped (text_of c.put.new.self) (text_of c.loop-byte.self) (text_of c.put_escaped.new.self) c.args.bytes.now c.loop-byte.byte-index c.loop-byte.invariant c.loop-byte-test.true c.put_escaped.ensures
 
 pub returns : goal.returns
 returns c =

@@ -25,17 +25,17 @@ kept t w line u wrote r s = record {
 pub returns-then-settle : goal.returns-then-settle
 returns-then-settle c =
     let t = text_of c.args.self.now in
-    let w = text_of c.put-event.new.self in
+    let w = text_of c.put_event.new.self in
     let line = event_line (event_of c.args.event) in
     let u = text_of c.settle.new.self in
-    let done = kept t w line u c.put-event.ensures c.settle.result (settled t w line c.put-event.ensures u c.settle.result c.len-before.result (c.len-before.ensures ∙ c.args.self.now.text.ok.0) c.settle.ensures.text c.settle.ensures.test) in
+    let done = kept t w line u c.put_event.ensures c.settle.result (settled t w line c.put_event.ensures u c.settle.result c.len-before.result (c.len-before.ensures ∙ c.args.self.now.text.ok.0) c.settle.ensures.text c.settle.ensures.test) in
     record { answer = ap (λ (b : Bool). answer (cond b 0 29)) (sym c.if-settle.true) ∙ done.answer; state = done.state }
 
 pub returns-else-settle : goal.returns-else-settle
 returns-else-settle c =
     let t = text_of c.args.self.now in
-    let w = text_of c.put-event.new.self in
+    let w = text_of c.put_event.new.self in
     let line = event_line (event_of c.args.event) in
     let u = text_of c.settle.new.self in
-    let done = kept t w line u c.put-event.ensures c.settle.result (settled t w line c.put-event.ensures u c.settle.result c.len-before.result (c.len-before.ensures ∙ c.args.self.now.text.ok.0) c.settle.ensures.text c.settle.ensures.test) in
+    let done = kept t w line u c.put_event.ensures c.settle.result (settled t w line c.put_event.ensures u c.settle.result c.len-before.result (c.len-before.ensures ∙ c.args.self.now.text.ok.0) c.settle.ensures.text c.settle.ensures.test) in
     record { answer = ap (λ (b : Bool). answer (cond b 0 29)) (sym c.if-settle.false) ∙ done.answer; state = done.state }
