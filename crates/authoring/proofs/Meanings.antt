@@ -1,5 +1,5 @@
 -- What is written for lines is what was sent for them, and that is lawful.
-use Rattle.std.proofs.Common.{◌≡◌, ℕ, ◌+◌, ◌≤◌, Bool, true, false, cond, leb, List, [], ◌∷◌, ◌++◌, Some, None, Option, sym, refl, ap, ◌∙◌, subst, append-nil, arith}
+use Rattle.std.proofs.Common.{◌≡◌, ℕ, ◌+◌, ◌≤◌, Bool, true, false, cond, leb, List, [], ◌∷◌, ◌++◌, Some, None, Option, sym, refl, ap, ◌∙◌, subst, arith}
 use Rattle.std.proofs.lemmas.Bool.{and_parts, leb-true}
 use Rattle.events.specs.Checks.{flaw}
 use Rattle.events.specs.Entry.{Entry}
@@ -16,7 +16,7 @@ use Rattle.wire.proofs.Means.{a_stream_means_what_was_sent}
 use Rattle.writer.specs.Written.{written}
 use Rattle.authoring.specs.declared.stop.Cause.TheVariants.{Refused}
 use Rattle.authoring.specs.Stream.{cause_of, bytes_of, onward, outcome}
-use Rattle.authoring.specs.Laws.{sent_for, unless_stopped, sent_by, WhatLinesSayIsRead}
+use Rattle.authoring.specs.Laws.{sent_for, unless_stopped, sent_by}
 
 -- an event that a line says has passed the checks
 passes : (l : List ℕ) (x : Entry) → event_said l ≡ event x → flaw x.type x.«data» ≡ None

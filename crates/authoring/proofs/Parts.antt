@@ -1,5 +1,5 @@
 -- A text that is written part by part through a buffer of 4096 bytes.
-use Rattle.std.proofs.Common.{◌≡◌, ℕ, ◌+◌, ◌-◌, ◌<◌, ◌≤◌, min, Bool, true, false, cond, ◌⊎◌, List, [], ◌++◌, length, take, drop, Some, None, Option, sym, refl, ap, ◌∙◌, ap₂, inl, inr, arith, take-add}
+use Rattle.std.proofs.Common.{◌≡◌, ℕ, ◌+◌, ◌-◌, ◌<◌, ◌≤◌, min, Bool, true, false, cond, ◌⊎◌, List, ◌++◌, length, take, drop, Some, None, sym, refl, ap, ◌∙◌, ap₂, inl, inr, arith, take-add}
 use Rattle.std.proofs.lemmas.List.{append_assoc, append-nil, length-append, length-take, length-drop, take_all, take_at}
 use Rattle.writer.specs.Filled.{count_of, filled}
 use Rattle.numbering.specs.Meaning.{has_text}

@@ -1,5 +1,5 @@
 -- Lines, written one after the other.
-use Rattle.std.proofs.Common.{◌≡◌, ℕ, suc, ◌+◌, ◌<◌, ◌≤◌, Bool, true, false, cond, eqb, List, [], ◌∷◌, ◌++◌, length, take, drop, Some, None, Option, sym, refl, ap, ◌∙◌, ap₂, arith}
+use Rattle.std.proofs.Common.{◌≡◌, ℕ, suc, ◌+◌, ◌<◌, Bool, true, false, cond, eqb, List, [], ◌∷◌, ◌++◌, length, take, drop, Some, None, Option, sym, refl, ap, ◌∙◌, ap₂, arith}
 use Rattle.std.proofs.lemmas.List.{append_assoc, append-nil, nil_from_length}
 use Rattle.events.specs.declared.line_end.LineEnd.{LineEnd}
 use Rattle.events.specs.declared.refusal.Refusal.TheVariants.{NumbersUsed}
@@ -7,7 +7,7 @@ use Rattle.script.specs.Events.{Said, event, refused, unreadable, event_said}
 use Rattle.script.specs.Lines.{line_length, line_of, behind_line, lengthened, all_lines}
 use Rattle.writer.specs.Written.{written}
 use Rattle.authoring.specs.declared.stop.Cause.{Cause}
-use Rattle.authoring.specs.declared.stop.Cause.TheVariants.{Refused, Unreadable}
+use Rattle.authoring.specs.declared.stop.Cause.TheVariants.{Refused}
 use Rattle.authoring.specs.declared.stop.Stop.{Stop}
 use Rattle.numbering.specs.Meaning.{has_text}
 use Rattle.authoring.specs.Stream.{cause_of, bytes_of, Outcome, onward, outcome, Wrote}

@@ -3,9 +3,9 @@
 #![tactic(auto)]
 
 mod laws;
-mod writing;
 mod stop;
+mod writing;
 
 pub use laws::what_lines_say_is_read;
-pub use writing::write_lines;
 pub use stop::{Cause, Stop};
+pub use writing::write_lines;

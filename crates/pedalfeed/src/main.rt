@@ -13,30 +13,40 @@ use crate::input::read_input;
 use crate::journals::tell_journal;
 use crate::output::tell_end;
 use crate::write::write;
-use anyhow::anyhow;
 use lines::Reader;
 use notation::{Tally, Transcript};
 use std::env;
+use std::process::ExitCode;
 
-fn main(rt: HostRuntime) -> anyhow::Result<()> {
+// An error that is told in words of our own ends it with status 1; a failed read or write is returned, and the runtime tells of it.
+fn main(rt: HostRuntime) -> anyhow::Result<ExitCode> {
     let words: Vec<String> = env::args(&rt)?.collect(rt.alloc())?;
     match asked(&words) {
         Command::Help => {
             rt.print(usage())?;
-            Ok(())
+            Ok(ExitCode::SUCCESS)
         }
-        Command::Read(piece) => read(&rt, piece),
-        Command::Count(piece) => count(&rt, piece),
-        Command::Journal => tell_journal(&rt),
+        Command::Read(piece) => {
+            read(&rt, piece)?;
+            Ok(ExitCode::SUCCESS)
+        }
+        Command::Count(piece) => {
+            count(&rt, piece)?;
+            Ok(ExitCode::SUCCESS)
+        }
+        Command::Journal => {
+            tell_journal(&rt)?;
+            Ok(ExitCode::SUCCESS)
+        }
         Command::Write(numbers, end) => write(&rt, numbers, end),
         Command::BadPiece => {
             eprintln!(rt; "error: a piece has 1 to 4096 bytes")?;
-            Err(anyhow!("a piece has 1 to 4096 bytes"))
+            Ok(ExitCode::FAILURE)
         }
         Command::Unknown(why) => {
             eprintln!(rt; "error: {why}")?;
             rt.stderr().print(usage())?;
-            Err(why.into())
+            Ok(ExitCode::FAILURE)
         }
     }
 }

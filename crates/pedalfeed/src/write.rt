@@ -1,13 +1,13 @@
 // Events, a line for each on standard input, written as a stream.
 use crate::command::Numbers;
-use anyhow::anyhow;
 use authoring::write_lines;
 use events::LineEnd;
 use numbering::{Bank, Decimal, Numbering};
 use std::io::{Read, Write};
+use std::process::ExitCode;
 
 // Writes the events of standard input to standard output.
-pub(crate) fn write(rt: &HostRuntime, numbers: Numbers, end: LineEnd) -> anyhow::Result<()> {
+pub(crate) fn write(rt: &HostRuntime, numbers: Numbers, end: LineEnd) -> anyhow::Result<ExitCode> {
     let mut text = Vec::new(rt.alloc());
     rt.stdin().read_to_end(&mut text)?;
     match numbers {
@@ -22,15 +22,15 @@ fn write_all<N: Numbering>(
     numbering: &N,
     end: LineEnd,
     text: &[u8],
-) -> anyhow::Result<()> {
+) -> anyhow::Result<ExitCode> {
     let mut stream = Vec::new(rt.alloc());
     let stop = write_lines(rt.alloc(), numbering, end, text, &mut stream)?;
     rt.stdout().write_all(&stream)?;
     match stop {
         Some(stop) => {
             eprintln!(rt; "{stop}")?;
-            Err(anyhow!("a line stops the writing"))
+            Ok(ExitCode::FAILURE)
         }
-        None => Ok(()),
+        None => Ok(ExitCode::SUCCESS),
     }
 }

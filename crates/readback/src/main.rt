@@ -2,7 +2,6 @@
 
 #![tactic(auto)]
 
-use anyhow::anyhow;
 use authoring::write_lines;
 use events::LineEnd;
 use lines::Reader;
@@ -10,11 +9,12 @@ use notation::{Transcript, end_lines};
 use numbering::Bank;
 use reading::read_on;
 use std::io::{Read, Write};
+use std::process::ExitCode;
 
 // The longest piece that is handed on, so that what a piece prints stays short.
 const PIECE: usize = 4_096;
 
-fn main(rt: HostRuntime) -> anyhow::Result<()> {
+fn main(rt: HostRuntime) -> anyhow::Result<ExitCode> {
     let mut text = Vec::new(rt.alloc());
     rt.stdin().read_to_end(&mut text)?;
     let mut stream = Vec::new(rt.alloc());
@@ -23,9 +23,9 @@ fn main(rt: HostRuntime) -> anyhow::Result<()> {
     match stop {
         Some(stop) => {
             eprintln!(rt; "{stop}")?;
-            Err(anyhow!("a line stops the writing"))
+            Ok(ExitCode::FAILURE)
         }
-        None => Ok(()),
+        None => Ok(ExitCode::SUCCESS),
     }
 }
 

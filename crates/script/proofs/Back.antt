@@ -1,13 +1,12 @@
 -- What is written between quotes is read back.
-use Rattle.std.proofs.Common.{◌≡◌, ℕ, ◌+◌, ◌-◌, ◌*◌, ◌/◌, ◌%◌, ◌<◌, ◌≤◌, cond, ◌&&◌, ◌||◌, eqb, ltb, leb, List, [], ◌∷◌, ◌++◌, drop, Some, None, sym, refl, ap, ◌∙◌, subst, ap₂, arith}
+use Rattle.std.proofs.Common.{◌≡◌, ℕ, ◌+◌, ◌-◌, ◌*◌, ◌/◌, ◌%◌, ◌<◌, ◌≤◌, ◌&&◌, ◌||◌, eqb, ltb, leb, List, [], ◌∷◌, ◌++◌, drop, Some, sym, refl, ap, ◌∙◌, subst, ap₂, arith}
 use Rattle.std.proofs.lemmas.List.{append_assoc}
 use Rattle.std.proofs.lemmas.Bool.{cond_both, cond-true, cond-false, and_from, and_right, or_parts, le-leb, lt-leb, ltb-true, ltb-false, eqb-true}
 use Rattle.std.specs.Option.{option_map}
 use Rattle.std.specs.List.{flat_map, AllByRecursion as All}
 use Rattle.notation.specs.Quoted.{hex_of, escaped}
-use Rattle.script.specs.declared.items.Item.{Item}
-use Rattle.script.specs.declared.items.Item.TheVariants.{Byte, Close, Wrong}
-use Rattle.script.specs.Items.{hex_value, numbered, marked_item, item_of}
+use Rattle.script.specs.declared.items.Item.TheVariants.{Byte}
+use Rattle.script.specs.Items.{hex_value, numbered, item_of}
 use Rattle.script.specs.Laws.{WhatIsQuotedIsReadBack}
 use Rattle.script.specs.Unquoted.{after, within}
 use Rattle.script.proofs.Within.{By, by_first}

@@ -1,5 +1,5 @@
 -- What a line says that should give an event by its type and its data.
-use Rattle.std.specs.Prelude.{◌≡◌, ℕ, List, [], Some, None, codes, Option, refl}
+use Rattle.std.specs.Prelude.{◌≡◌, ℕ, List, Some, None, codes, Option, refl}
 use Rattle.events.specs.Checks.{flaw}
 use Rattle.events.specs.Entry.{Entry}
 use Rattle.events.specs.declared.refusal.Refusal.{Refusal}

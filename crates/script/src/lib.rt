@@ -2,17 +2,17 @@
 
 #![tactic(auto)]
 
+mod cutting;
 mod event;
 mod items;
 mod laws;
-mod cutting;
 mod quoted;
 mod texts;
 
+pub use cutting::cut_line;
 pub use event::{EventLine, event_line};
 pub use items::{Item, first_item};
 pub use laws::what_is_quoted_is_read_back;
-pub use cutting::cut_line;
 pub use quoted::{Unquoted, unquote};
 pub use texts::{TwoTexts, next_text, skip_blanks, two_texts};
 
@@ -34,7 +34,9 @@ mod tests {
         }?;
         match event_line(rt.alloc(), b"\"in\\x73ert\" \"\\n\"")? {
             EventLine::Event(entry) => {
-                assert!(rt; entry.event_type() == b"insert".as_slice() && entry.data() == b"\n".as_slice());
+                assert!(rt;
+                    entry.event_type() == b"insert".as_slice() && entry.data() == b"\n".as_slice()
+                );
                 Ok(())
             },
             _ => Err(Fail::new("no event")),
@@ -65,6 +67,11 @@ mod tests {
         let (first, rest) = cut_line(b"a\n\nb");
         let (second, rest) = cut_line(rest);
         let (third, rest) = cut_line(rest);
-        assert!(rt; first == b"a".as_slice() && second == b"".as_slice() && third == b"b".as_slice() && rest == b"".as_slice());
+        assert!(rt;
+            first == b"a".as_slice()
+                && second == b"".as_slice()
+                && third == b"b".as_slice()
+                && rest == b"".as_slice()
+        );
     }
 }

@@ -3,7 +3,7 @@ use Rattle.std.proofs.Common.{◌≡◌, ℕ, false, ◌&&◌, ◌||◌, eqb, Li
 use lib.Utf8.{encode}
 use Rattle.std.proofs.lemmas.List.{map-append}
 use Rattle.std.proofs.lemmas.Bool.{or_parts}
-use Rattle.std.proofs.lemmas.Str.{chars_append as decodes-append, encodes-chars, scalars-chars}
+use Rattle.std.proofs.lemmas.Str.{chars-append as decodes-append, encodes-chars, scalars-chars}
 use Rattle.std.specs.Str.{chars, bytes_eq}
 use Rattle.machine.specs.Run.{run}
 use Rattle.events.specs.Checks.{holds}

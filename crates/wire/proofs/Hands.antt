@@ -1,10 +1,9 @@
 -- Reading over a sink, by what the bytes give without one: the sink is offered the events in order.
-use Rattle.std.proofs.Common.{◌≡◌, ℕ, ◌+◌, Bool, true, false, cond, eqb, List, [], ◌∷◌, ◌++◌, length, Some, None, sym, refl, ap, arith}
+use Rattle.std.proofs.Common.{◌≡◌, ℕ, Bool, true, false, cond, eqb, List, [], ◌∷◌, ◌++◌, length, Some, None, sym, refl, ap, arith}
 use Rattle.std.proofs.lemmas.Bool.{both_ways, eqb-false}
 use Rattle.machine.specs.Run.{Step, run}
 use Rattle.events.specs.Event.{Event}
 use Rattle.decoder.specs.Standard.{Char}
-use Rattle.decoder.specs.Machine as decoder
 use Rattle.fields.specs.Cause.{refused_by_sink}
 use Rattle.fields.specs.Block.{Outcome, nothing, event, over}
 use Rattle.fields.specs.Hand.{kept, faulted, Handed, hand}

@@ -2,7 +2,6 @@
 use Rattle.std.proofs.Common.{◌≡◌, ℕ, List, [], ◌∷◌, ◌++◌, sym, refl, ap, ◌∙◌, subst, append_assoc, append-nil, arith}
 use Rattle.events.specs.Event.{Event}
 use Rattle.events.specs.declared.line_end.LineEnd.{LineEnd}
-use Rattle.lines.specs.Reader as reader
 use Rattle.lines.specs.Reader.{Reader, reading, stopped, restarted, reads}
 use Rattle.reading.specs.Standard.{Before, new, lines_of, events_of}
 use Rattle.reading.specs.Limits.{through, refused_in}

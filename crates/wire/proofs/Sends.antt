@@ -6,7 +6,7 @@ use Rattle.machine.proofs.Laws.{run_append}
 use Rattle.events.specs.Event.{Event}
 use Rattle.events.specs.declared.line_end.LineEnd.{LineEnd}
 use Rattle.events.proofs.Texts.{passed}
-use Rattle.decoder.specs.Standard.{Char, text}
+use Rattle.decoder.specs.Standard.{Char}
 use Rattle.decoder.specs.Machine.{State, kept, step}
 use Rattle.decoder.proofs.Kept.{unmarked_same}
 use Rattle.fields.specs.Block as block

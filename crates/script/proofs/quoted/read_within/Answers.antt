@@ -1,7 +1,7 @@
-use Rattle.std.proofs.Common.{vec_items, sym, ◌∙◌, arith, rules}
+use Rattle.std.proofs.Common.{vec_items, arith, rules}
 use Rattle.std.proofs.lemmas.List.{length-take, length-drop}
 use Rattle.script.specs.Unquoted.{within}
-use Rattle.script.proofs.Within.{byte_lies, read_more, read_all, read_none}
+use Rattle.script.proofs.Within.{byte_lies, read_more, read_all}
 use Rattle.script.proofs.quoted.read_within.Goals as goal
 
 pub slice_bounds-rest-count : goal.slice_bounds-rest-count

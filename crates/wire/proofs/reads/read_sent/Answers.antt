@@ -16,9 +16,9 @@ loop-piece-preserved g c =
     let i = c.loop-piece.piece-index in
     let r = reader_of c.args.reader.now in
     let x = k.state c.args.sink.now in
-    subst (λ s. HasRead k.refusal k.after r x s (reader_of c.read-on.new.reader) (k.state c.read-on.new.sink))
+    subst (λ s. HasRead k.refusal k.after r x s (reader_of c.read_on.new.reader) (k.state c.read_on.new.sink))
     (sym (joined_next (λ p. p.now) ps i _ c.loop-piece-test.true))
-    (has_read_more k.refusal k.after r x (flat_map (λ p. p.now) (take i ps)) _ (reader_of c.loop-piece.reader) (reader_of c.read-on.new.reader) (k.state c.loop-piece.sink) (k.state c.read-on.new.sink) c.loop-piece.invariant c.read-on.ensures.reader c.read-on.ensures.sink)
+    (has_read_more k.refusal k.after r x (flat_map (λ p. p.now) (take i ps)) _ (reader_of c.loop-piece.reader) (reader_of c.read_on.new.reader) (k.state c.loop-piece.sink) (k.state c.read_on.new.sink) c.loop-piece.invariant c.read_on.ensures.reader c.read_on.ensures.sink)
 
 pub returns : goal.returns
 returns g c =

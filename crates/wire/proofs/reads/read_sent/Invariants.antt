@@ -1,4 +1,4 @@
-use Rattle.std.proofs.Common.{◌≡◌, take}
+use Rattle.std.proofs.Common.{take}
 use Rattle.std.specs.List.{flat_map}
 use Rattle.lines.specs.Code.{reader_of}
 use Rattle.wire.proofs.Turns.{HasRead}

@@ -1,4 +1,4 @@
-use Rattle.std.proofs.Common.{◌≡◌, ◌-◌, true, false, cond, length, Some, None, sym, ap, ◌∙◌, arith}
+use Rattle.std.proofs.Common.{◌≡◌, true, false, cond, length, Some, None, sym, ap, ◌∙◌, arith}
 use Rattle.events.specs.Entry.{entry_of}
 use Rattle.numbering.specs.Meaning.{has_text, fits}
 use Rattle.writer.specs.Filled.{count_of, filled}
@@ -19,8 +19,8 @@ returns-in-Some g c =
     let id = front (fits k.greatest (length t) n 32) t _ _ _ c.in-Some.len c.in-Some.ensures.out told.0 told.1 in
     let has : has_text k.greatest n ≡ true = sym (fits_if_it_has k.greatest n (length t) 32 (λ p q. omega (arith, (k.printed n p q).most, k.short))) ∙ told.0 in
     record {
-      count = ap Some (c.write-event.ensures.count ∙ ap (λ i. count_of c.args.from (written e i (entry_of x)) out) id) ∙ sym (ap (λ b. cond b (Some (count_of c.args.from (written e t (entry_of x)) out)) None) has);
-      out = c.write-event.ensures.out ∙ ap (λ i. filled c.args.from (written e i (entry_of x)) out) id ∙ sym (ap (λ b. cond b (filled c.args.from (written e t (entry_of x)) out) out) has);
+      count = ap Some (c.write_event.ensures.count ∙ ap (λ i. count_of c.args.from (written e i (entry_of x)) out) id) ∙ sym (ap (λ b. cond b (Some (count_of c.args.from (written e t (entry_of x)) out)) None) has);
+      out = c.write_event.ensures.out ∙ ap (λ i. filled c.args.from (written e i (entry_of x)) out) id ∙ sym (ap (λ b. cond b (filled c.args.from (written e t (entry_of x)) out) out) has);
       lawful = λ p q. lawful k.longest t x k.short (k.printed n p q);
       alone = λ p q. a_written_event_is_read_alone e t (entry_of x) (lawful k.longest t x k.short (k.printed n p q));
     }
