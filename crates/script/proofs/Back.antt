@@ -3,7 +3,7 @@ use Rattle.std.proofs.Common.{◌≡◌, ℕ, ◌+◌, ◌-◌, ◌*◌, ◌/◌
 use Rattle.std.proofs.lemmas.List.{append_assoc}
 use Rattle.std.proofs.lemmas.Bool.{cond_both, cond-true, cond-false, and_from, and_right, or_parts, le-leb, lt-leb, ltb-true, ltb-false, eqb-true}
 use Rattle.std.specs.Option.{option_map}
-use Rattle.std.specs.List.{flat_map, AllByRecursion as All}
+use Rattle.std.specs.List.{flat_map, AllByRecursion}
 use Rattle.notation.specs.Quoted.{hex_of, escaped}
 use Rattle.script.specs.declared.items.Item.TheVariants.{Byte}
 use Rattle.script.specs.Items.{hex_value, numbered, item_of}
@@ -49,7 +49,7 @@ byte_back b t h =
     (λ e. let p = or_parts (eqb b 34) (eqb b 92) ne in item_read b 1 (b ∷ t) t (cond-false _ _ _ p.0 ∙ cond-false _ _ _ p.1 ∙ cond-true _ _ _ e) refl)
     (λ _. item_read b 4 (92 ∷ 120 ∷ hex_of (b / 16) ∷ hex_of (b % 16) ∷ t) t (digits_back b h) refl))))
 
-bytes_back : (s rest : List ℕ) → All (λ b. b < 256) s → within 0 (flat_map escaped s ++ 34 ∷ rest) ≡ Some (record { bytes = s; rest = rest })
+bytes_back : (s rest : List ℕ) → AllByRecursion (λ b. b < 256) s → within 0 (flat_map escaped s ++ 34 ∷ rest) ≡ Some (record { bytes = s; rest = rest })
 bytes_back [] rest h = refl
 bytes_back (b ∷ s) rest h =
     ap (within 0) (append_assoc (escaped b) (flat_map escaped s) (34 ∷ rest)) ∙ byte_back b (flat_map escaped s ++ 34 ∷ rest) h.0
