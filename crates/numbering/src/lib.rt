@@ -28,16 +28,20 @@ mod tests {
     #[test]
     fn bank_texts(rt: HostRuntime) {
         let mut out = [b'.'; 3];
-        assert_eq!(rt; Bank.write(1, &mut out), Some(2));
-        assert!(rt; out == *b"1A.");
         assert_eq!(rt; Bank.write(5, &mut out), Some(2));
         assert!(rt; out == *b"2A.");
         assert_eq!(rt; Bank.write(4_000_000, &mut out), None);
-        let mut out = [b'.'; 8];
-        assert_eq!(rt; Bank.write(4_000_000, &mut out), Some(8));
-        assert!(rt; out == *b"1000000D");
         assert_eq!(rt; Bank.read(b"1000000D"), Some(4_000_000));
         assert_eq!(rt; Bank.read(b"01A"), None);
+    }
+
+    #[test]
+    fn first_and_last_bank_texts(rt: HostRuntime) {
+        let mut out = [b'.'; 8];
+        assert_eq!(rt; Bank.write(1, &mut out), Some(2));
+        assert!(rt; out == *b"1A......");
+        assert_eq!(rt; Bank.write(4_000_000, &mut out), Some(8));
+        assert!(rt; out == *b"1000000D");
         assert_eq!(rt; Bank.read(b"0A"), None);
         assert_eq!(rt; Bank.read(b"1E"), None);
         assert_eq!(rt; Bank.read(b""), None);
