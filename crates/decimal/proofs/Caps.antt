@@ -9,8 +9,8 @@ abbrev pub rest : ℕ → ℕ → List ℕ → Option ℕ
 rest most n [] = Some n
 rest most n (b ∷ s) = cond (digit b) (rest most (min (n * 10 + (b - 48)) most) s) None
 
-turn_goes_on : (most n b m : ℕ) (s : List ℕ) → Some m ≡ capped_digit most n b → rest most n (b ∷ s) ≡ rest most m s
-turn_goes_on most n b m s = by (digit b)
+goes_on : (most n b m : ℕ) (s : List ℕ) → Some m ≡ capped_digit most n b → rest most n (b ∷ s) ≡ rest most m s
+goes_on most n b m s = by (digit b)
   where
     by : (v : Bool) → Some m ≡ cond v (Some (min (n * 10 + (b - 48)) most)) None → cond v (rest most (min (n * 10 + (b - 48)) most) s) None ≡ rest most m s
     by true e = let q : m ≡ min (n * 10 + (b - 48)) most = cc e in ap (λ k. rest most k s) (sym q)
@@ -25,7 +25,7 @@ stops most n b s = by (digit b)
 
 -- the same at a place of the text
 pub goes_on_at : (most n m i : ℕ) (s : List ℕ) → i < length s → Some m ≡ capped_digit most n (get_or s i 0) → rest most m (drop (i + 1) s) ≡ rest most n (drop i s)
-goes_on_at most n m i s h e = sym (turn_goes_on most n (get_or s i 0) m (drop (i + 1) s) e) ∙ sym (at_drop_more (rest most n) s i 0 h)
+goes_on_at most n m i s h e = sym (goes_on most n (get_or s i 0) m (drop (i + 1) s) e) ∙ sym (at_drop_more (rest most n) s i 0 h)
 
 pub stops_at : (most n i : ℕ) (s : List ℕ) → i < length s → None ≡ capped_digit most n (get_or s i 0) → None ≡ rest most n (drop i s)
 stops_at most n i s h e = sym (stops most n (get_or s i 0) (drop (i + 1) s) e) ∙ sym (at_drop_more (rest most n) s i 0 h)

@@ -8,7 +8,7 @@ use Rattle.decoder.specs.Standard.{Range, lead_of, Char, replacement}
 use Rattle.decoder.specs.Machine.{Reading, between, wanting, begun, advance, State, kept, moved, step}
 use Rattle.decoder.specs.Relation.{Fits, none, one}
 use Rattle.decoder.proofs.Kept.{Whole, whole, encode_whole}
-use Rattle.decoder.proofs.Whole.{marked, runs}
+use Rattle.decoder.proofs.Whole.{marked, marked_runs}
 
 abbrev goes : List ℕ → List Range → List ℕ → Step Reading Char
 goes seen rs s = also (wanting seen rs).out (run advance (wanting seen rs).state s)
@@ -35,7 +35,7 @@ advances (c ∷ cs) e =
 -- From between two characters, where no mark is dropped: its characters come out, and the machine is between two characters again.
 pub goes_through : (cs : List ℕ) → scalars cs ≡ true → (st : State) → st.reading ≡ between → kept st.started (map encode cs) ≡ map encode cs → run step st (encodes cs) ≡ record { state = record { started = moved st.started (map encode cs); reading = between }; out = map encode cs }
 goes_through cs e st b k =
-    runs (encodes cs) st
+    marked_runs (encodes cs) st
     ∙ ap (λ q. marked st.started (run advance q (encodes cs))) b
     ∙ ap (marked st.started) (advances cs e)
     ∙ ap (λ o. record { state = record { started = moved st.started (map encode cs); reading = between }; out = o }) k

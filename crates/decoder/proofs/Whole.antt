@@ -22,17 +22,17 @@ shifted seen b s (whole n) = ap (λ c. c ∷ given between (drop n s)) (append_a
 shifted seen b s (broken n) = refl
 shifted seen b s short = refl
 
-turn_goes_on : (s : List ℕ) (seen : List ℕ) (rs : List Range) → goes seen rs s ≡ told seen s (look rs s)
-turn_goes_on s seen [] = ap (λ c. c ∷ given between s) (sym (append-nil seen))
-turn_goes_on [] seen (r ∷ rs) = refl
-turn_goes_on (b ∷ s) seen (r ∷ rs) = by (turn_goes_on s (seen ++ b ∷ []) rs) (lies r b)
+goes_on : (s : List ℕ) (seen : List ℕ) (rs : List Range) → goes seen rs s ≡ told seen s (look rs s)
+goes_on s seen [] = ap (λ c. c ∷ given between s) (sym (append-nil seen))
+goes_on [] seen (r ∷ rs) = refl
+goes_on (b ∷ s) seen (r ∷ rs) = by (goes_on s (seen ++ b ∷ []) rs) (lies r b)
   where
     by : goes (seen ++ b ∷ []) rs s ≡ told (seen ++ b ∷ []) s (look rs s) → (v : Bool) → (let t = cond v (wanting (seen ++ b ∷ []) rs) (also (replacement ∷ []) (begun (lead_of b) b)) in t.out ++ given t.state s) ≡ told seen (b ∷ s) (cond v (further (look rs s)) (broken 0))
     by ih true = ih ∙ shifted seen b s (look rs s)
     by ih false = refl
 
 begins : (s : List ℕ) (b : ℕ) (l : Lead) → (begun l b).out ++ given (begun l b).state s ≡ told (b ∷ []) s (look_from l s)
-begins s b (lead rs) = turn_goes_on s (b ∷ []) rs
+begins s b (lead rs) = goes_on s (b ∷ []) rs
 begins s b stray = refl
 
 agree : (s : List ℕ) (skip : ℕ) → given between (drop skip s) ≡ chars_after skip s
@@ -57,6 +57,10 @@ marks false (c ∷ cs) ds = by (is_mark c)
     by true = refl
     by false = refl
 
+kept_nothing : (st : Bool) → [] ≡ kept st []
+kept_nothing true = refl
+kept_nothing false = refl
+
 moved_on : (st : Bool) (cs ds : List Char) → moved st (cs ++ ds) ≡ moved (moved st cs) ds
 moved_on true cs ds = refl
 moved_on false [] ds = refl
@@ -70,17 +74,20 @@ nothing_marked : (st : Bool) (q : Reading) → record { state = record { started
 nothing_marked true q = refl
 nothing_marked false q = refl
 
-pub runs : (s : List ℕ) (st : State) → run step st s ≡ marked st.started (run advance st.reading s)
-runs [] st = nothing_marked st.started st.reading
-runs (b ∷ s) st =
+pub marked_runs : (s : List ℕ) (st : State) → run step st s ≡ marked st.started (run advance st.reading s)
+marked_runs [] st = nothing_marked st.started st.reading
+marked_runs (b ∷ s) st =
     let t = advance st.reading b in
     let u = run advance t.state s in
-    ap (also (kept st.started t.out)) (runs s (step st b).state)
+    ap (also (kept st.started t.out)) (marked_runs s (step st b).state)
     ∙ ap (λ m. record { state = record { started = m; reading = u.state }; out = kept st.started t.out ++ kept (moved st.started t.out) u.out }) (sym (moved_on st.started t.out u.out))
     ∙ ap (λ o. record { state = record { started = moved st.started (t.out ++ u.out); reading = u.state }; out = o }) (sym (marks st.started t.out u.out))
 
+runs : (s : List ℕ) (st : State) → (run step st s).out ≡ kept st.started (given st.reading s)
+runs s st = ap (λ t. t.out) (marked_runs s st)
+
 pub chars_so_far : (s : List ℕ) → (run step fresh s).out ≡ chars s
-chars_so_far s = ap (λ t. t.out) (runs s fresh) ∙ ap unmarked (agree s 0)
+chars_so_far s = runs s fresh ∙ ap unmarked (agree s 0)
 
 text_append : (cs ds : List Char) → text (cs ++ ds) ≡ text cs ++ text ds
 text_append [] ds = refl

@@ -6,8 +6,8 @@ use Rattle.fields.specs.Block.{joined}
 joined_length : (old v : List ℕ) → length (joined old v) ≡ length old + (length v + 1)
 joined_length old v = simp length-append
 
-pub turn_is_too_long : (old v : List ℕ) → 513 ≤ length old + length v → false ≡ leb (length (joined old v)) 513
-turn_is_too_long old v h = let l = joined_length old v in sym (lt-leb (length (joined old v)) 513 (omega arith))
+pub too_long : (old v : List ℕ) → 513 ≤ length old + length v → false ≡ leb (length (joined old v)) 513
+too_long old v h = let l = joined_length old v in sym (lt-leb (length (joined old v)) 513 (omega arith))
 
 -- What was appended and then pushed, where there is room.
 pub record Joined (old v new : List ℕ) (ok : Bool) : Type 0 where

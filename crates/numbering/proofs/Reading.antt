@@ -11,8 +11,8 @@ abbrev pub rest : ℕ → ℕ → List ℕ → Option ℕ
 rest most n [] = Some n
 rest most n (b ∷ s) = cond (digit b && leb (n * 10 + (b - 48)) most) (rest most (n * 10 + (b - 48)) s) None
 
-turn_goes_on : (most n b m : ℕ) (s : List ℕ) → Some m ≡ further most n b → rest most n (b ∷ s) ≡ rest most m s
-turn_goes_on most n b m s = by (digit b && leb (n * 10 + (b - 48)) most)
+goes_on : (most n b m : ℕ) (s : List ℕ) → Some m ≡ further most n b → rest most n (b ∷ s) ≡ rest most m s
+goes_on most n b m s = by (digit b && leb (n * 10 + (b - 48)) most)
   where
     by : (v : Bool) → Some m ≡ cond v (Some (n * 10 + (b - 48))) None → cond v (rest most (n * 10 + (b - 48)) s) None ≡ rest most m s
     by true e = let q : m ≡ n * 10 + (b - 48) = cc e in ap (λ k. rest most k s) (sym q)
@@ -27,7 +27,7 @@ stops most n b s = by (digit b && leb (n * 10 + (b - 48)) most)
 
 -- the same at a place of the text
 pub goes_on_at : (most n m i : ℕ) (s : List ℕ) → i < length s → Some m ≡ further most n (get_or s i 0) → rest most m (drop (i + 1) s) ≡ rest most n (drop i s)
-goes_on_at most n m i s h e = sym (turn_goes_on most n (get_or s i 0) m (drop (i + 1) s) e) ∙ sym (at_drop_more (rest most n) s i 0 h)
+goes_on_at most n m i s h e = sym (goes_on most n (get_or s i 0) m (drop (i + 1) s) e) ∙ sym (at_drop_more (rest most n) s i 0 h)
 
 pub stops_at : (most n i : ℕ) (s : List ℕ) → i < length s → None ≡ further most n (get_or s i 0) → None ≡ rest most n (drop i s)
 stops_at most n i s h e = sym (stops most n (get_or s i 0) (drop (i + 1) s) e) ∙ sym (at_drop_more (rest most n) s i 0 h)

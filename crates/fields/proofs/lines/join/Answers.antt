@@ -1,10 +1,10 @@
 use Rattle.std.proofs.Common.{refl, rules}
 use Rattle.buffer.specs.Bytes.{bytes_of}
-use Rattle.fields.proofs.Joins.{turn_is_too_long, joins}
+use Rattle.fields.proofs.Joins.{too_long, joins}
 use Rattle.fields.proofs.lines.join.Goals as goal
 
 pub returns-then-value-len : goal.returns-then-value-len
-returns-then-value-len c = record { bytes = refl; test = turn_is_too_long (bytes_of c.args.buffer.now) c.args.value.now (search rules) }
+returns-then-value-len c = record { bytes = refl; test = too_long (bytes_of c.args.buffer.now) c.args.value.now (search rules) }
 
 pub returns : goal.returns
 returns c =
