@@ -1,9 +1,11 @@
 -- Writing in pieces, each clipped to the memory, is writing their whole.
-use Rattle.std.proofs.Common.{◌≡◌, ℕ, ◌+◌, ◌-◌, ◌<◌, ◌≤◌, Bool, true, false, cond, leb, List, [], ◌∷◌, ◌++◌, length, get_or, take, sym, refl, ap, ◌∙◌, inl, inr, arith}
+use Rattle.std.proofs.Common.{◌≡◌, ℕ, ◌+◌, ◌-◌, ◌<◌, ◌≤◌, Bool, true, false, cond, eqb, leb, List, [], ◌∷◌, ◌++◌, length, get_or, take, is_ok, Result, sym, refl, ap, ◌∙◌, inl, inr, arith}
 use lib.Seq.{take-append-le, take-append-add}
 use Rattle.std.specs.List.{flat_map}
 use Rattle.std.proofs.lemmas.List.{append_assoc, append-nil, length-append, length-take, flat_map_more, take_all, take_at, take_more}
 use Rattle.std.proofs.lemmas.Bool.{cases_lt, le-leb, lt-leb, leb-true, leb-false}
+use Rattle.sink.specs.Answer.{answer}
+use Rattle.sink.specs.declared.fault.SinkFault.{SinkFault}
 use Rattle.notation.specs.Transcript.{clipped}
 
 pub clip_nothing : (t : List ℕ) → clipped t [] ≡ t
@@ -57,13 +59,29 @@ module _ (t w line : List ℕ) (wrote : w ≡ clipped t line) where
   within_the_capacity h =
       (le-leb (length t + length line) 262144 (omega (arith, size, length-take (262145 - length t) line)), wrote ∙ ap (λ (x : List ℕ). t ++ x) (take_all (262145 - length t) line (omega (arith, size, length-take (262145 - length t) line))))
 
-  -- the text after it was settled, and whether it stayed
-  pub record Settled (u : List ℕ) (r : Bool) : Type 0 where
-    pub text : u ≡ cond r (t ++ line) t
-    pub test : r ≡ leb (length t + length line) 262144
+  -- the text after it was settled, and the answer
+  pub record Settled (u : List ℕ) (r : Result (Unit {0}) SinkFault) : Type 0 where
+    pub text : u ≡ cond (is_ok r) (t ++ line) t
+    pub answer : r ≡ answer (cond (leb (length t + length line) 262144) 0 29)
+    pub state : u ≡ cond (eqb (cond (leb (length t + length line) 262144) 0 29) 0) (t ++ line) t
 
-  pub settled : (u : List ℕ) (r : Bool) (before : ℕ) → before ≡ length t → u ≡ cond r w (take before w) → r ≡ leb (length w) 262144 → Settled u r
-  settled u true before eb eu er = let k = within_the_capacity (leb-true (length w) 262144 (sym er)) in record { text = eu ∙ k.1; test = sym k.0 }
-  settled u false before eb eu er =
-      let k = past_the_capacity (leb-false (length w) 262144 (sym er)) in
-      record { text = eu ∙ ap (λ (n : ℕ). take n w) eb ∙ k.1; test = sym k.0 }
+  pub settled : (u : List ℕ) (r : Result (Unit {0}) SinkFault) (before : ℕ) → before ≡ length t → u ≡ cond (is_ok r) w (take before w) → r ≡ answer (cond (leb (length w) 262144) 0 29) → Settled u r
+  settled u r before eb eu er = by (leb (length w) 262144) refl er
+    where
+      by : (b : Bool) → leb (length w) 262144 ≡ b → r ≡ answer (cond b 0 29) → Settled u r
+      by true e q =
+          let k = within_the_capacity (leb-true (length w) 262144 e) in
+          let stays : u ≡ t ++ line = eu ∙ ap (λ x. cond (is_ok x) w (take before w)) q ∙ k.1 in
+          record {
+            text = stays ∙ sym (ap (λ x. cond (is_ok x) (t ++ line) t) q);
+            answer = q ∙ sym (ap (λ b. answer (cond b 0 29)) k.0);
+            state = stays ∙ sym (ap (λ b. cond (eqb (cond b 0 29) 0) (t ++ line) t) k.0);
+          }
+      by false e q =
+          let k = past_the_capacity (leb-false (length w) 262144 e) in
+          let back : u ≡ t = eu ∙ ap (λ x. cond (is_ok x) w (take before w)) q ∙ ap (λ n. take n w) eb ∙ k.1 in
+          record {
+            text = back ∙ sym (ap (λ x. cond (is_ok x) (t ++ line) t) q);
+            answer = q ∙ sym (ap (λ b. answer (cond b 0 29)) k.0);
+            state = back ∙ sym (ap (λ b. cond (eqb (cond b 0 29) 0) (t ++ line) t) k.0);
+          }

@@ -1,5 +1,6 @@
 // A sink that writes each event down in a line.
-ghost use Rattle.std.specs.Prelude.{◌≡◌, ℕ, ◌+◌, ◌<◌, List, [], ◌∷◌, ◌++◌, length, take, IfOk, if◌then◌else◌, nat_le};
+ghost use Rattle.std.specs.Prelude.{◌≡◌, ℕ, ◌+◌, ◌<◌, List, [], ◌∷◌, ◌++◌, length, take, is_ok, IfOk, if◌then◌else◌, nat_le};
+ghost use Rattle.sink.specs.Answer.{answer};
 ghost use Rattle.events.specs.Event.{event_of};
 ghost use Rattle.notation.specs.Kept.{text_of};
 ghost use Rattle.notation.specs.Quoted.{hex_of, escaped, quoted, note_line, event_line};
@@ -96,22 +97,24 @@ impl Transcript {
         self.put(b'"');
     }
 
-    // Takes back what was written behind `before` bytes if the text is too long now, and answers whether it stays.
-    fn settle(&mut self, before: usize) -> bool
-        ensures text { text_of self.new ≡ (if result then text_of self.old else take before (text_of self.old)) }
-        ensures test { result ≡ nat_le (length (text_of self.old)) 262144 }
+    // Takes back what was written behind `before` bytes, and refuses it, if the text is too long now.
+    fn settle(&mut self, before: usize) -> Result<(), SinkFault>
+        ensures text { text_of self.new ≡ (if is_ok result then text_of self.old else take before (text_of self.old)) }
+        ensures answer { result ≡ answer (if nat_le (length (text_of self.old)) 262144 then 0 else 29) }
     {
         if self.text.len() > CAPACITY {
             self.text.truncate(before);
-            return false;
+            return Err(SinkFault {
+                number: TRANSCRIPT_FULL,
+            });
         }
-        true
+        Ok(())
     }
 
-    // Writes a line of a word and bytes between quotes, or nothing where it does not fit; answers whether it was written.
-    pub fn note(&mut self, word: &[u8], bytes: &[u8]) -> bool
-        ensures text { text_of self.new ≡ (if result then text_of self.old ++ note_line word.now bytes.now else text_of self.old) }
-        ensures test { result ≡ nat_le (length (text_of self.old) + length (note_line word.now bytes.now)) 262144 }
+    // Writes a line of a word and bytes between quotes, or nothing where it does not fit.
+    pub fn note(&mut self, word: &[u8], bytes: &[u8]) -> Result<(), SinkFault>
+        ensures text { text_of self.new ≡ (if is_ok result then text_of self.old ++ note_line word.now bytes.now else text_of self.old) }
+        ensures answer { result ≡ answer (if nat_le (length (text_of self.old) + length (note_line word.now bytes.now)) 262144 then 0 else 29) }
     {
         let before = self.text.len();
         self.put_note(word, bytes);
@@ -155,12 +158,6 @@ impl Sink for Transcript {
     fn keep(&mut self, event: Event<'_>) -> Result<(), SinkFault> {
         let before = self.text.len();
         self.put_event(event);
-        if self.settle(before) {
-            Ok(())
-        } else {
-            Err(SinkFault {
-                number: TRANSCRIPT_FULL,
-            })
-        }
+        self.settle(before)
     }
 }

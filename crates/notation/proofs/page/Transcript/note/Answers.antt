@@ -6,5 +6,5 @@ use Rattle.notation.proofs.page.Transcript.note.Goals as goal
 
 pub returns : goal.returns
 returns c =
-    let done = settled (text_of c.args.self.now) (text_of c.put_note.new.self) (note_line c.args.word.now c.args.bytes.now) c.put_note.ensures (text_of c.settle.new.self) c.settle.result c.len-before.result (c.len-before.ensures ∙ c.args.self.now.text.ok.0) c.settle.ensures.text c.settle.ensures.test in
-    record { text = done.text; test = done.test }
+    let done = settled (text_of c.args.self.now) (text_of c.put_note.new.self) (note_line c.args.word.now c.args.bytes.now) c.put_note.ensures (text_of c.settle.new.self) c.settle.result c.len-before.result (c.len-before.ensures ∙ c.args.self.now.text.ok.0) c.settle.ensures.text c.settle.ensures.answer in
+    record { text = done.text; answer = done.answer }
