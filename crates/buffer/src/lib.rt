@@ -2,34 +2,23 @@
 
 #![tactic(auto)]
 
-ghost use Rattle.std.specs.Prelude.{◌≡◌, ◌+◌, ◌<◌, ◌≤◌, [], ◌∷◌, ◌++◌, length, is_ok, if◌then◌else◌, nat_le, nat_lt, slice_set};
+ghost use Rattle.std.specs.Prelude.{◌≡◌, ◌+◌, [], ◌∷◌, ◌++◌, length, is_ok, if◌then◌else◌, nat_le, nat_lt};
 ghost use Rattle.buffer.specs.Bytes.{bytes_of};
 
 mod store;
 
 pub use store::Buffer;
-use store::Store;
 
 // Refused for want of room.
-#[derive(Clone, Copy)]
+#[derive(Clone, Copy, Debug, PartialEq)]
 pub struct Full;
-
-impl<const N: usize> Store<N> {
-    // Stores one byte.
-    fn put(&mut self, at: usize, byte: u8)
-        requires { at < N }
-        ensures { self.new.bytes ≡ slice_set self.old.bytes at byte }
-    {
-        self.bytes[at] = byte;
-    }
-}
 
 impl<const N: usize> Buffer<N> {
     pub fn new() -> Buffer<N>
         ensures { bytes_of result ≡ [] }
     {
         Buffer {
-            store: Store { bytes: [0; N] },
+            bytes: [0; N],
             fill: 0,
         }
     }
@@ -43,8 +32,7 @@ impl<const N: usize> Buffer<N> {
     pub fn as_slice(&self) -> &[u8]
         ensures { result.now ≡ bytes_of self.now }
     {
-        let all = &self.store.bytes[..];
-        &all[0..self.fill]
+        &self.bytes[..self.fill]
     }
 
     pub fn clear(&mut self)
@@ -61,7 +49,7 @@ impl<const N: usize> Buffer<N> {
         if self.fill >= N {
             return Err(Full);
         }
-        self.store.put(self.fill, byte);
+        self.bytes[self.fill] = byte;
         self.fill += 1;
         Ok(())
     }
@@ -74,12 +62,10 @@ impl<const N: usize> Buffer<N> {
         if bytes.len() > N - self.fill {
             return Err(Full);
         }
-        let mut fill = self.fill;
-        for byte in bytes {
-            self.store.put(fill, *byte);
-            fill += 1;
-        }
-        self.fill = fill;
+        let (from, to) = (self.fill, self.fill + bytes.len());
+        let all = &mut self.bytes[..];
+        all[from..to].copy_from_slice(bytes);
+        self.fill = to;
         Ok(())
     }
 

@@ -7,6 +7,8 @@ ghost use Rattle.std.specs.List.{slice_get};
 ghost use Rattle.queue.specs.Ring.{place_of};
 ghost use Rattle.queue.specs.Items.{items, capacity_of};
 
+pub use buffer::Full;
+
 // A queue in lent memory, as long as the memory at most. It has no invariant: its items are there for every `start` and `len`,
 // so it can lie in any struct.
 #[derive(Drop)]
@@ -15,10 +17,6 @@ pub struct Queue<'a, T> {
     start: usize,
     len: usize,
 }
-
-// Refused for want of room.
-#[derive(Clone, Copy, Debug, PartialEq)]
-pub struct Full;
 
 // Where item i lies.
 fn place(capacity: usize, start: usize, i: usize) -> usize
@@ -133,8 +131,8 @@ impl<'a, T: Copy> Queue<'a, T> {
         ensures capacity { capacity_of self.new ≡ capacity_of self.old }
     {
         let n = xs.len().min(self.room());
-        for i in 0..n {
-            let _ = self.push(xs[i]);
+        for x in &xs[..n] {
+            let _ = self.push(*x);
         }
         n
     }
@@ -146,13 +144,13 @@ impl<'a, T: Copy> Queue<'a, T> {
         ensures items { items self.new ≡ drop result (items self.old) }
         ensures capacity { capacity_of self.new ≡ capacity_of self.old }
     {
-        let n = out.len().min(self.len());
-        for i in 0..n {
+        let taken = out.len().min(self.len());
+        for place in &mut out[..taken] {
             if let Some(x) = self.pop_front() {
-                out[i] = x;
+                *place = x;
             }
         }
-        n
+        taken
     }
 }
 
