@@ -1,7 +1,7 @@
-use Rattle.std.proofs.Common.{◌≤◌, ◌<◌, length, take, decimal, arith, rules}
+use Rattle.std.proofs.Common.{◌≤◌, ◌<◌, length, decimal, arith}
 use Rattle.std.proofs.lemmas.Grind.{common_steps}
 use Rattle.std.proofs.lemmas.Bool.Decides.{nat_tests}
-use Rattle.std.proofs.lemmas.List.{length-take, length_push}
+use Rattle.std.proofs.lemmas.List.{length_push}
 use Rattle.numbering.specs.Banked.{bank_of, letter_of}
 use Rattle.numbering.proofs.Writing.{behind}
 use Rattle.numbering.proofs.banks.BankNumbering.write.Goals as goal
