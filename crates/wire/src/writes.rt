@@ -27,8 +27,6 @@ pub fn write_numbered<N: Numbering>(
     ensures alone { 1 ≤ number → number ≤ N.Numbering.GREATEST → Means (written end (N.Numbering.text number) (entry_of event.now)) (sent_event (N.Numbering.text number) (entry_of event.now) ∷ []) }
 {
     let mut id = [0; 32];
-    match numbering.write(number, &mut id) {
-        Some(len) => Some(write_event(end, &id[0..len], event, from, out)),
-        None => None,
-    }
+    let len = numbering.write(number, &mut id)?;
+    Some(write_event(end, &id[..len], event, from, out))
 }
