@@ -3,3 +3,4 @@ pub mod Refusal
 pub mod Checks
 pub mod Entry
 pub mod LineEnd
+pub mod Memory

@@ -8,10 +8,14 @@ mod checks;
 mod entries;
 mod entry;
 mod line_end;
+mod memory;
+mod message;
 mod refusal;
 
 pub use entry::Entry;
-pub use line_end::LineEnd;
+pub use line_end::{LineEnd, UnknownLineEnd};
+pub use memory::check_memory;
+pub use message::is_message;
 pub use refusal::Refusal;
 
 // A finished event: the id text, the type and the data, each as bytes.

@@ -1,5 +1,7 @@
-ghost use Rattle.std.specs.Prelude.{◌≡◌};
-ghost use Rattle.events.specs.LineEnd.{end_bytes};
+ghost use Rattle.std.specs.Prelude.{◌≡◌, Some, None, MatchResult};
+ghost use Rattle.events.specs.LineEnd.{end_bytes, end_named};
+
+use std::str::FromStr;
 
 // How a sender ends its lines.
 #[derive(Clone, Copy, Debug, PartialEq)]
@@ -18,6 +20,26 @@ impl LineEnd {
             LineEnd::Lf => b"\n",
             LineEnd::CrLf => b"\r\n",
             LineEnd::Cr => b"\r",
+        }
+    }
+}
+
+// A word that names no line end.
+#[derive(Clone, Copy, Debug, PartialEq)]
+pub struct UnknownLineEnd;
+
+// A line end by its name: `lf`, `crlf` or `cr`.
+impl FromStr for LineEnd {
+    type Err = UnknownLineEnd;
+
+    ghost from_str_gives = { λ word r. MatchResult r (λ e. end_named word ≡ Some e) (λ _. end_named word ≡ None) };
+
+    fn from_str(word: &str) -> Result<LineEnd, UnknownLineEnd> {
+        match word {
+            "lf" => Ok(LineEnd::Lf),
+            "crlf" => Ok(LineEnd::CrLf),
+            "cr" => Ok(LineEnd::Cr),
+            _ => Err(UnknownLineEnd),
         }
     }
 }
