@@ -1,21 +1,12 @@
 // The lines that a sender writes, written through a window.
-ghost use Rattle.std.specs.Prelude.{◌≡◌, codes};
-ghost use Rattle.std.specs.Str.{bytes_eq};
 ghost use Rattle.events.specs.Entry.{entry_of};
 ghost use Rattle.events.specs.LineEnd.{end_bytes};
 ghost use Rattle.writer.specs.Views.{Puts};
 ghost use Rattle.writer.specs.Written.{field_line, type_line, data_lines, written, comment_line, retry_line};
 
 use crate::window::Window;
-use events::Entry;
+use events::{Entry, is_message};
 use itoa::Buffer;
-
-// Whether it is the type that a reader takes where none is written.
-fn is_message(event_type: &[u8]) -> bool
-    ensures { result ≡ bytes_eq event_type.now (codes "message") }
-{
-    event_type == b"message".as_slice()
-}
 
 impl Window<'_> {
     // The end of a line.
