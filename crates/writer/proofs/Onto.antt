@@ -18,20 +18,20 @@ same_view : (s s' : ℕ) (d d' r r' : List ℕ) → s ≡ s' → d ≡ d' → r 
 same_view s s' d d' r r' p q t = cc
 
 -- one copy of n bytes, from byte `from` of the bytes, to place `at` of the buffer
-module _ (v : View) (out bytes part : List ℕ) (to from at room n : ℕ) (left : room ≡ length out - to) (start : at ≡ length out - room) (skipped : from ≡ min v.skip (length bytes)) (fitting : n ≡ min (length bytes - from) room) where
+module _ (v : View) (out bytes part : List ℕ) (to from at n : ℕ) (within : at ≡ length (take to out)) (skipped : from ≡ min v.skip (length bytes)) (fitting : n ≡ min (length bytes - from) (length out - at)) where
   pub copied : v.done ≡ take to out → v.rest ≡ drop to out → part ≡ take (from + n - from) (drop from bytes) →
       ◌≡◌ {A = View} (record { skip = v.skip - from; done = take (at + n) (put_mid at (at + n - at) out part); rest = drop (at + n) (put_mid at (at + n - at) out part) }) (onto v bytes)
   unfolding onto
   copied d r p =
       let s = v.skip in
-      let within : at ≡ min to (length out) = omega arith in
+      let least : at ≡ min to (length out) = within ∙ length-take to out in
       let behind = length-drop s bytes in
       let places = length-drop to out in
       let whole : from + n - from ≡ n = omega arith in
       let taken : n ≡ min (length v.rest) (length (drop s bytes)) = omega (arith, ap length r) in
       let gone : n ≡ min (length (drop s bytes)) (length v.rest) = omega arith in
-      let front : take at out ≡ v.done = ap (λ (i : ℕ). take i out) within ∙ take_min to out ∙ sym d in
-      let back : drop at out ≡ v.rest = ap (λ (i : ℕ). drop i out) within ∙ drop_min to out ∙ sym r in
+      let front : take at out ≡ v.done = ap (λ (i : ℕ). take i out) least ∙ take_min to out ∙ sym d in
+      let back : drop at out ≡ v.rest = ap (λ (i : ℕ). drop i out) least ∙ drop_min to out ∙ sym r in
       let shown : part ≡ take (length v.rest) (drop s bytes) =
       p ∙ ap₂ take whole (ap (λ (i : ℕ). drop i bytes) skipped ∙ drop_min s bytes) ∙ ap (λ (i : ℕ). take i (drop s bytes)) taken ∙ take_min (length v.rest) (drop s bytes) in
       let size : length part ≡ n = omega (arith, ap length shown, length-take (length v.rest) (drop s bytes)) in

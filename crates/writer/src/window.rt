@@ -1,5 +1,5 @@
 // The part of a text that a buffer takes, while the text is written bit by bit.
-ghost use Rattle.std.specs.Prelude.{◌≡◌, ◌-◌, length};
+ghost use Rattle.std.specs.Prelude.{◌≡◌, length};
 ghost use Rattle.writer.specs.Views.{view_of, begun, Puts};
 
 use events::LineEnd;
@@ -32,29 +32,22 @@ impl<'a> Window<'a> {
         }
     }
 
-    // How many places of the buffer are left.
-    fn room(&self) -> usize
-        ensures { result ≡ length self.now.out.now - self.now.at }
-    {
-        self.out.len().saturating_sub(self.at)
-    }
-
     // How many places of the buffer are filled.
     #[tactic(auto, unfolding(crate::specs::Views::view_of))]
     pub(crate) fn done(&self) -> usize
         ensures { result ≡ length (view_of self.now).done }
     {
-        self.out.len() - self.room()
+        self.at.min(self.out.len())
     }
 
     // Writes the next bytes of the text, as far as they lie in the window.
+    #[tactic(auto, unfolding(crate::specs::Views::view_of))]
     pub(crate) fn put(&mut self, bytes: &[u8])
         ensures { Puts self.old self.new bytes.now }
     {
         let from = self.skip.min(bytes.len());
-        let room = self.room();
-        let at = self.out.len() - room;
-        let n = (bytes.len() - from).min(room);
+        let at = self.done();
+        let n = (bytes.len() - from).min(self.out.len() - at);
         self.out[at..at + n].copy_from_slice(&bytes[from..from + n]);
         self.skip -= from;
         self.at = at + n;
