@@ -2,7 +2,7 @@
 ghost use Rattle.std.specs.Prelude.{◌≡◌, ◌<◌, [], length, is_ok, if◌then◌else◌, nat_eq, nat_le};
 ghost use Rattle.buffer.specs.Bytes.{bytes_of};
 ghost use Rattle.sink.specs.Answer.{answer};
-ghost use Rattle.fields.specs.Block.{unread, renewed, joined, says_data, says_event, says_id, says_retry, says, has_nul, typed, block_event, moved};
+ghost use Rattle.fields.specs.Block.{unread, renewed, joined, says_data, says_event, says_id, says_retry, says, typed, block_event, moved};
 ghost use Rattle.fields.specs.Hand.{hand_line};
 ghost use Rattle.fields.specs.Code.{held_of, answer_of, field_said, field_answer, field_told};
 
@@ -91,41 +91,31 @@ impl Fields {
         ensures held { held_of self.new ≡ (says_data (held_of self.old) value.now).held }
         ensures answer { field_answer result ≡ field_told (says_data (held_of self.old) value.now).outcome }
     {
-        match join(&mut self.data, value) {
-            Ok(()) => Ok(()),
-            Err(Full) => Err(FieldFault::LongData),
-        }
+        join(&mut self.data, value).map_err(|_| FieldFault::LongData)
     }
 
     fn say_event(&mut self, value: &[u8]) -> Result<(), FieldFault>
         ensures held { held_of self.new ≡ (says_event (held_of self.old) value.now).held }
         ensures answer { field_answer result ≡ field_told (says_event (held_of self.old) value.now).outcome }
     {
-        match self.event_type.set(value) {
-            Ok(()) => Ok(()),
-            Err(Full) => Err(FieldFault::LongType),
-        }
+        self.event_type.set(value).map_err(|_| FieldFault::LongType)
     }
 
     fn say_id(&mut self, value: &[u8]) -> Result<(), FieldFault>
         ensures held { held_of self.new ≡ (says_id (held_of self.old) value.now).held }
         ensures answer { field_answer result ≡ field_told (says_id (held_of self.old) value.now).outcome }
     {
-        if value.len() <= 32 && has_nul(value) {
+        if value.len() <= 32 && value.contains(&0) {
             return Ok(());
         }
-        match self.id.set(value) {
-            Ok(()) => Ok(()),
-            Err(Full) => Err(FieldFault::LongId),
-        }
+        self.id.set(value).map_err(|_| FieldFault::LongId)
     }
 
     fn say_retry(&mut self, value: &[u8])
         ensures { held_of self.new ≡ (says_retry (held_of self.old) value.now).held }
     {
-        match capped(value, LONGEST_RETRY) {
-            Some(time) => self.retry = time,
-            None => {}
+        if let Some(time) = capped(value, LONGEST_RETRY) {
+            self.retry = time;
         }
     }
 
@@ -135,7 +125,7 @@ impl Fields {
         ensures sink { S.Sink.state sink.new ≡ (hand_line S.Sink.refusal S.Sink.after (held_of self.old) (S.Sink.state sink.old) []).sink }
         ensures answer { answer_of result ≡ (hand_line S.Sink.refusal S.Sink.after (held_of self.old) (S.Sink.state sink.old) []).answer }
     {
-        if self.data.len() == 0 {
+        if self.data.as_slice().is_empty() {
             self.move_on();
             return Ok(false);
         }
@@ -157,7 +147,7 @@ impl Fields {
         let event = Event {
             id: self.id.as_slice(),
             event_type: type_or_message(self.event_type.as_slice()),
-            data: &data[0..data.len() - 1],
+            data: &data[..data.len() - 1],
         };
         sink.keep(event)
     }
@@ -168,8 +158,7 @@ impl Fields {
     {
         self.data.clear();
         self.event_type.clear();
-        let id = self.id;
-        self.last = id;
+        self.last = self.id;
     }
 }
 
@@ -192,15 +181,4 @@ fn type_or_message<'a>(event_type: &'a [u8]) -> &'a [u8]
         [] => b"message",
         _ => event_type,
     }
-}
-
-fn has_nul(value: &[u8]) -> bool
-    ensures { result ≡ has_nul value.now }
-{
-    for byte in value {
-        if *byte == 0 {
-            return true;
-        }
-    }
-    false
 }

@@ -18,28 +18,20 @@ mod tests {
     #[test]
     fn pipe_hands_over(rt: HostRuntime) -> Result<(), Fail> {
         let mut mem = [0u8; 16];
-        match Pipe::new(&mut mem) {
-            Ok(mut pipe) => {
-                let mut out = [b'.'; 4];
-                assert_eq!(rt; pipe.put(b"id"), 2);
-                assert_eq!(rt; pipe.take(&mut out), 2);
-                assert!(rt; out == *b"id..");
-                Ok(())
-            }
-            Err(_) => Err(Fail::new("refused")),
-        }
+        let mut pipe = Pipe::new(&mut mem)?;
+        let mut out = [b'.'; 4];
+        assert_eq!(rt; pipe.put(b"id"), 2);
+        assert_eq!(rt; pipe.take(&mut out), 2);
+        assert!(rt; out == *b"id..");
+        Ok(())
     }
 
     #[test]
     fn pipe_serves(rt: HostRuntime) -> Result<(), Fail> {
         let mut mem = [0u8; 16];
-        match Pipe::new(&mut mem) {
-            Ok(pipe) => {
-                assert!(rt; pipe.serves());
-                Ok(())
-            }
-            Err(_) => Err(Fail::new("refused")),
-        }
+        let pipe = Pipe::new(&mut mem)?;
+        assert!(rt; pipe.serves());
+        Ok(())
     }
 
     #[test]

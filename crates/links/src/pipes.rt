@@ -3,7 +3,7 @@ ghost use Rattle.queue.specs.Items.{items, capacity_of};
 ghost use Rattle.links.specs.Pipes.{sized, pipe_waiting, pipe_offer, pipe_least, pipe_roomy, pipe_serves, pipe_enough};
 
 use crate::traits::Link;
-use events::Refusal;
+use events::{Refusal, check_memory};
 use queue::Queue;
 
 // Bytes that wait in lent memory. Its room is what the memory has left.
@@ -12,22 +12,12 @@ pub struct Pipe<'a> {
     bytes: Queue<'a, u8>,
 }
 
-// Whether memory of so many bytes serves.
-fn check_size(n: usize) -> Result<(), Refusal>
-    ensures { result ≡ sized n }
-{
-    match n {
-        16..=65_536 => Ok(()),
-        _ => Err(Refusal::MemorySize),
-    }
-}
-
 impl<'a> Pipe<'a> {
     // An empty pipe in memory of 16 to 65,536 bytes.
     pub fn new(mem: &'a mut [u8]) -> Result<Pipe<'a>, Refusal>
         ensures { MatchResult result (λ p. (sized (length mem.old) ≡ Ok tt) × (pipe_waiting p ≡ []) × (pipe_least p ≡ length mem.old) × (16 ≤ pipe_least p) × ((pipe_offer p).room ≡ length mem.old) × (pipe_serves p ≡ true)) (λ x. sized (length mem.old) ≡ Err x) }
     {
-        check_size(mem.len())?;
+        check_memory(mem.len(), 16, 65_536)?;
         let bytes = Queue::new(mem);
         Ok(Pipe { bytes })
     }

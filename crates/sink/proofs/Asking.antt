@@ -1,11 +1,11 @@
 -- In a row of at most 8, an edit whose numbers are capped at 64 does what the edit itself does.
-use Rattle.std.proofs.Common.{◌≡◌, ℕ, ◌≤◌, Bool, true, false, cond, ◌&&◌, ltb, leb, List, length, refl, ap, ◌∙◌, ap₂, arith}
+use Rattle.std.proofs.Common.{◌≡◌, ℕ, ◌≤◌, Bool, true, false, cond, ◌&&◌, ltb, leb, List, length, Some, None, refl, ap, ◌∙◌, ap₂, arith}
 use Rattle.std.specs.List.{insert as inserted, remove as removed}
 use Rattle.std.proofs.lemmas.Bool.{and_parts, leb-true, ltb-true}
 use Rattle.std.proofs.lemmas.Bool.Decides.{nat_tests}
 use Rattle.sink.specs.Chain.{Edit, insert, remove, other, lawful, edited, refused}
 use Rattle.sink.specs.Capped.{cap64, capped}
-use Rattle.sink.specs.declared.edit.Edit.TheVariants.{Insert, Remove, Other}
+use Rattle.sink.specs.declared.edit.Edit.TheVariants.{Insert, Remove}
 
 -- two choices by one test, whose first ways are equal where it holds
 same_choice : {X : Type 0} (v : Bool) (x y z : X) → (v ≡ true → x ≡ y) → cond v x z ≡ cond v y z
@@ -36,7 +36,7 @@ module _ (row : List ℕ) (few : length row ≤ 8) where
       let r : ltb place (length row) ≡ true → removed row (cap64 place) ≡ removed row place = λ h. let p : cap64 place ≡ place = omega (arith, ltb-true place (length row) h) in ap (removed row) p in
       ap (λ (b : Bool). cond b (removed row (cap64 place)) row) l ∙ same_choice (ltb place (length row)) _ _ row r
 
-  pub as_the_insert_read : (e : Edit) (place code : ℕ) → Insert place code ≡ capped e → (refused row (insert place code) ≡ refused row e) × (edited row (insert place code) ≡ edited row e)
+  pub as_the_insert_read : (e : Edit) (place code : ℕ) → Some (Insert place code) ≡ capped e → (refused row (insert place code) ≡ refused row e) × (edited row (insert place code) ≡ edited row e)
   as_the_insert_read (insert p c) place code q =
       let ep : place ≡ cap64 p = cc in
       let ec : code ≡ cap64 c = cc in
@@ -45,14 +45,14 @@ module _ (row : List ℕ) (few : length row ≤ 8) where
   as_the_insert_read (remove p) place code q = let z : ◌≡◌ {A = ℕ} 0 1 = cc in absurd (omega arith)
   as_the_insert_read other place code q = let z : ◌≡◌ {A = ℕ} 0 1 = cc in absurd (omega arith)
 
-  pub as_the_remove_read : (e : Edit) (place : ℕ) → Remove place ≡ capped e → (0 ≡ refused row e) × (edited row (remove place) ≡ edited row e)
+  pub as_the_remove_read : (e : Edit) (place : ℕ) → Some (Remove place) ≡ capped e → (0 ≡ refused row e) × (edited row (remove place) ≡ edited row e)
   as_the_remove_read (insert p c) place q = let z : ◌≡◌ {A = ℕ} 0 1 = cc in absurd (omega arith)
   as_the_remove_read (remove p) place q =
       let ep : place ≡ cap64 p = cc in
       (refl, ap (λ (m : ℕ). edited row (remove m)) ep ∙ remove_capped p)
   as_the_remove_read other place q = let z : ◌≡◌ {A = ℕ} 0 1 = cc in absurd (omega arith)
 
-  pub as_nothing_read : (e : Edit) → Other ≡ capped e → (0 ≡ refused row e) × (row ≡ edited row e)
+  pub as_nothing_read : (e : Edit) → None ≡ capped e → (0 ≡ refused row e) × (row ≡ edited row e)
   as_nothing_read (insert p c) q = let z : ◌≡◌ {A = ℕ} 0 1 = cc in absurd (omega arith)
   as_nothing_read (remove p) q = let z : ◌≡◌ {A = ℕ} 0 1 = cc in absurd (omega arith)
   as_nothing_read other q = (refl, refl)

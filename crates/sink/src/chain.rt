@@ -55,7 +55,7 @@ impl Chain {
         ensures few { length result.now ≤ 8 }
         ensures lawful { (k : ℕ) → k < length result.now → slice_index result.now k ≤ 63 }
     {
-        &self.places[0..self.count]
+        &self.places[..self.count]
     }
 
     // Inserts a code, passes what is no lawful insert, and refuses one more than 8.
@@ -98,12 +98,12 @@ impl Sink for Chain {
 
     fn keep(&mut self, event: Event<'_>) -> Result<(), SinkFault> {
         match read(event) {
-            Edit::Insert { place, code } => self.insert(place, code),
-            Edit::Remove { place } => {
+            Some(Edit::Insert { place, code }) => self.insert(place, code),
+            Some(Edit::Remove { place }) => {
                 self.remove(place);
                 Ok(())
             }
-            Edit::Other => Ok(()),
+            None => Ok(()),
         }
     }
 }

@@ -1,9 +1,9 @@
 // What an event asks of a chain, read from its type and its data.
-ghost use Rattle.std.specs.Prelude.{◌≡◌};
+ghost use Rattle.std.specs.Prelude.{◌≡◌, ◌==◌, position};
 ghost use Rattle.std.specs.Option.{option_map};
 ghost use Rattle.events.specs.Event.{event_of};
 ghost use Rattle.sink.specs.Numeral.{numeral};
-ghost use Rattle.sink.specs.Chain.{to_space, insertion, removal, edit_of};
+ghost use Rattle.sink.specs.Chain.{insertion, removal, edit_of};
 ghost use Rattle.sink.specs.Capped.{cap64, capped};
 
 use events::Event;
@@ -12,11 +12,10 @@ use events::Event;
 const PAST_ALL: u32 = 64;
 
 // An edit of the row of codes.
-#[derive(Clone, Copy)]
+#[derive(Clone, Copy, Debug, PartialEq)]
 pub(crate) enum Edit {
     Insert { place: usize, code: usize },
     Remove { place: usize },
-    Other,
 }
 
 // The number that a text is: digits without a zero before others.
@@ -25,54 +24,37 @@ fn number(text: &[u8]) -> Option<usize>
 {
     match text {
         [b'0', _, ..] => None,
-        _ => match decimal::capped(text, PAST_ALL) {
-            Some(number) => Some(number as usize),
-            None => None,
-        },
+        _ => Some(decimal::capped(text, PAST_ALL)? as usize),
     }
 }
 
-// The place of the first space, or the length where there is none.
-fn space(text: &[u8]) -> usize
-    ensures { result ≡ to_space text.now }
+// The place of the first space.
+fn space(text: &[u8]) -> Option<usize>
+    ensures { result ≡ position (λ b. b == 32) text.now }
 {
-    for (i, byte) in text.iter().enumerate() {
-        if *byte == b' ' {
-            return i;
-        }
-    }
-    text.len()
+    text.iter().position(|byte| *byte == b' ')
 }
 
 // A place and a code with a space between.
-fn insert_in(text: &[u8]) -> Edit
+fn insert_in(text: &[u8]) -> Option<Edit>
     ensures { result ≡ capped (insertion text.now) }
 {
-    let at = space(text);
-    if at >= text.len() {
-        return Edit::Other;
-    }
-    let Some(place) = number(&text[0..at]) else {
-        return Edit::Other;
-    };
-    let Some(code) = number(&text[at + 1..]) else {
-        return Edit::Other;
-    };
-    Edit::Insert { place, code }
+    let at = space(text)?;
+    let place = number(&text[..at])?;
+    let code = number(&text[at + 1..])?;
+    Some(Edit::Insert { place, code })
 }
 
 // A place.
-fn remove_in(text: &[u8]) -> Edit
+fn remove_in(text: &[u8]) -> Option<Edit>
     ensures { result ≡ capped (removal text.now) }
 {
-    match number(text) {
-        Some(place) => Edit::Remove { place },
-        None => Edit::Other,
-    }
+    let place = number(text)?;
+    Some(Edit::Remove { place })
 }
 
-// The edit that an event asks for.
-pub(crate) fn read(event: Event<'_>) -> Edit
+// The edit that an event asks for, if it asks for one.
+pub(crate) fn read(event: Event<'_>) -> Option<Edit>
     ensures { result ≡ capped (edit_of (event_of event.entry)) }
 {
     if event.event_type == b"insert".as_slice() {
@@ -80,6 +62,6 @@ pub(crate) fn read(event: Event<'_>) -> Edit
     } else if event.event_type == b"remove".as_slice() {
         remove_in(event.data)
     } else {
-        Edit::Other
+        None
     }
 }

@@ -1,18 +1,18 @@
-use Rattle.std.proofs.Common.{Some, None, refl}
+use Rattle.std.proofs.Common.{Some, None, refl, ◌∙◌}
 use Rattle.sink.proofs.Reading.{reads_the_pair, no_pair_without_a_space}
 use Rattle.sink.proofs.edit.insert_in.Goals as goal
 
-pub returns-then-at-text : goal.returns-then-at-text
-returns-then-at-text c = no_pair_without_a_space c.args.text.now c.space-at.result c.space-at.ensures c.if-at-text.true
+pub returns-in_err-at : goal.returns-in_err-at
+returns-in_err-at c = c.from_residual.ensures ∙ no_pair_without_a_space c.args.text.now c.in_err-at.ensures
 
-pub returns-in_default : goal.returns-in_default
-returns-in_default c =
-    reads_the_pair c.args.text.now c.space-at.result c.space-at.ensures None _ c.in_default.ensures refl
+pub returns-in_err-place : goal.returns-in_err-place
+returns-in_err-place c =
+    c.from_residual-in_err-place.ensures ∙ reads_the_pair c.args.text.now c.in_ok-at.at c.in_ok-at.ensures None _ c.in_err-place.ensures refl
 
-pub returns-in_default-number : goal.returns-in_default-number
-returns-in_default-number c =
-    reads_the_pair c.args.text.now c.space-at.result c.space-at.ensures (Some c.in-Some.place) None c.in-Some.ensures c.in_default-number.ensures
+pub returns-in_err-code : goal.returns-in_err-code
+returns-in_err-code c =
+    c.from_residual-in_err-code.ensures ∙ reads_the_pair c.args.text.now c.in_ok-at.at c.in_ok-at.ensures (Some c.in_ok-place.place) None c.in_ok-place.ensures c.in_err-code.ensures
 
 pub returns : goal.returns
 returns c =
-    reads_the_pair c.args.text.now c.space-at.result c.space-at.ensures (Some c.in-Some.place) (Some c.in-Some-number.code) c.in-Some.ensures c.in-Some-number.ensures
+    reads_the_pair c.args.text.now c.in_ok-at.at c.in_ok-at.ensures (Some c.in_ok-place.place) (Some c.in_ok-code.code) c.in_ok-place.ensures c.in_ok-code.ensures
