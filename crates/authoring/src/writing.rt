@@ -25,7 +25,7 @@ pub fn write_lines<N: Numbering>(
     text: &[u8],
     stream: &mut Vec<u8>,
 ) -> Result<Option<Stop>, AllocError>
-    ensures { IfOk result (λ stop. (stop ≡ (outcome N.Numbering.greatest N.Numbering.text end 1 (all_lines text.now)).stop) × (stream.new.items ≡ stream.old.items ++ (outcome N.Numbering.greatest N.Numbering.text end 1 (all_lines text.now)).bytes)) }
+    ensures { IfOk result (λ stop. (stop ≡ (outcome N.Numbering.GREATEST N.Numbering.text end 1 (all_lines text.now)).stop) × (stream.new.items ≡ stream.old.items ++ (outcome N.Numbering.GREATEST N.Numbering.text end 1 (all_lines text.now)).bytes)) }
 {
     let mut rest = text;
     let mut line = 1u64;
@@ -49,7 +49,7 @@ fn write_line<N: Numbering>(
     line: &[u8],
     stream: &mut Vec<u8>,
 ) -> Result<Option<Cause>, AllocError>
-    ensures { IfOk result (λ o. Wrote N.Numbering.greatest N.Numbering.text end number line.now stream.old.items stream.new.items o) }
+    ensures { IfOk result (λ o. Wrote N.Numbering.GREATEST N.Numbering.text end number line.now stream.old.items stream.new.items o) }
 {
     match event_line(heap, line)? {
         EventLine::Event(event) => {
@@ -74,7 +74,7 @@ fn append_event<N: Numbering>(
     event: &Entry,
     stream: &mut Vec<u8>,
 ) -> Result<bool, AllocError>
-    ensures { IfOk result (λ b. (b ≡ has_text N.Numbering.greatest number) × (stream.new.items ≡ stream.old.items ++ (if b then written end (N.Numbering.text number) (entry_of event.now) else []))) }
+    ensures { IfOk result (λ b. (b ≡ has_text N.Numbering.GREATEST number) × (stream.new.items ≡ stream.old.items ++ (if b then written end (N.Numbering.text number) (entry_of event.now) else []))) }
 {
     let mut part = [0u8; PART];
     let mut from = 0;

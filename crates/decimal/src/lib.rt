@@ -32,7 +32,11 @@ fn one_more(number: u64, byte: u8) -> Option<u64>
     ensures { result ≡ capped_digit 18446744073709551615 number byte }
 {
     match byte {
-        b'0'..=b'9' => Some(number.saturating_mul(10).saturating_add(u64::from(byte - b'0'))),
+        b'0'..=b'9' => Some(
+            number
+                .saturating_mul(10)
+                .saturating_add(u64::from(byte - b'0')),
+        ),
         _ => None,
     }
 }

@@ -1,6 +1,6 @@
 -- Numbers in base ten without leading zeros. The text of n is std's `decimal n`; here is what a text is read as.
-use Rattle.std.specs.Prelude.{◌≡◌, ℕ, ◌+◌, ◌-◌, ◌*◌, Bool, false, cond, not, ◌&&◌, List, [], ◌∷◌, Some, None, codes, decimal, Option, ◌==◌, nat_le, refl}
-use Rattle.decimal.specs.Decimal.{digit, all_digits, value}
+use Rattle.std.specs.Prelude.{◌≡◌, ℕ, Bool, false, cond, not, ◌&&◌, List, [], ◌∷◌, Some, None, codes, decimal, Option, ◌==◌, nat_le, refl}
+use Rattle.decimal.specs.Decimal.{all_digits, value}
 use Rattle.std.specs.Fmt.{digits}
 
 -- one digit or more, the first of them not 0
@@ -11,10 +11,6 @@ plain (b ∷ s) = not (b == 48) && all_digits (b ∷ s)
 -- the number that a text writes, if it is at most `most`
 abbrev pub numeral : ℕ → List ℕ → Option ℕ
 numeral most t = cond (plain t && nat_le (value t) most) (Some (value t)) None
-
--- one digit more behind the number n, if that is at most `most`
-abbrev pub further : ℕ → ℕ → ℕ → Option ℕ
-further most n b = cond (digit b && nat_le (n * 10 + (b - 48)) most) (Some (n * 10 + (b - 48))) None
 
 example_text : decimal 4294967295 ≡ codes "4294967295"
 unfolding digits

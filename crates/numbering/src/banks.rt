@@ -13,9 +13,9 @@ impl Numbering for Bank {
 
     const LONGEST: usize = 8;
 
-    ghost greatest = { 4000000 };
+    ghost GREATEST = { 4000000 };
 
-    ghost longest = { 8 };
+    ghost LONGEST = { 8 };
 
     ghost text = { banked };
 
@@ -29,43 +29,21 @@ impl Numbering for Bank {
 
     ghost only = { only };
 
-    fn last_number(&self) -> u32 {
-        Self::GREATEST
-    }
-
-    fn text_limit(&self) -> usize {
-        Self::LONGEST
-    }
-
     fn write(&self, n: u32, out: &mut [u8]) -> Option<usize> {
         if n == 0 || n > Self::GREATEST {
             return None;
         }
-        if out.is_empty() {
-            return None;
-        }
-        let last = out.len() - 1;
-        match put_decimal((n - 1) / 4 + 1, &mut out[0..last]) {
-            Some(len) => {
-                out[len] = b'A' + ((n - 1) % 4) as u8;
-                Some(len + 1)
-            }
-            None => None,
-        }
+        let last = out.len().checked_sub(1)?;
+        let len = put_decimal((n - 1) / 4 + 1, &mut out[..last])?;
+        out[len] = b'A' + ((n - 1) % 4) as u8;
+        Some(len + 1)
     }
 
     fn read(&self, bytes: &[u8]) -> Option<u32> {
-        if bytes.is_empty() {
+        let [bank @ .., letter @ b'A'..=b'D'] = bytes else {
             return None;
-        }
-        let last = bytes.len() - 1;
-        let letter = bytes[last];
-        if letter < b'A' || letter > b'D' {
-            return None;
-        }
-        match read_decimal(&bytes[0..last], 1_000_000) {
-            Some(bank) => Some((bank - 1) * 4 + u32::from(letter - b'A') + 1),
-            None => None,
-        }
+        };
+        let bank = read_decimal(bank, Self::GREATEST / 4)?;
+        Some((bank - 1) * 4 + u32::from(*letter - b'A') + 1)
     }
 }

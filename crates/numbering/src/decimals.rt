@@ -14,9 +14,9 @@ impl Numbering for Decimal {
 
     const LONGEST: usize = 10;
 
-    ghost greatest = { 4294967295 };
+    ghost GREATEST = { 4294967295 };
 
-    ghost longest = { 10 };
+    ghost LONGEST = { 10 };
 
     ghost text = { decimal };
 
@@ -29,14 +29,6 @@ impl Numbering for Decimal {
     ghost back = { back };
 
     ghost only = { only };
-
-    fn last_number(&self) -> u32 {
-        Self::GREATEST
-    }
-
-    fn text_limit(&self) -> usize {
-        Self::LONGEST
-    }
 
     fn write(&self, n: u32, out: &mut [u8]) -> Option<usize> {
         if n == 0 {

@@ -7,37 +7,43 @@ pub trait Numbering {
     // The last number that has a text.
     const GREATEST: u32;
 
+    ghost GREATEST: { ℕ };
+
     // The most bytes that a text has.
     const LONGEST: usize;
 
-    ghost greatest: { ℕ };
-
-    ghost longest: { ℕ };
+    ghost LONGEST: { ℕ };
 
     ghost text: { ℕ → List ℕ };
 
     ghost reading: { List ℕ → Option ℕ };
 
-    ghost short: { longest ≤ 32 };
+    ghost short: { LONGEST ≤ 32 };
 
-    ghost printed: { (n : ℕ) → 1 ≤ n → n ≤ greatest → Printed longest (text n) };
+    ghost printed: { (n : ℕ) → 1 ≤ n → n ≤ GREATEST → Printed LONGEST (text n) };
 
-    ghost back: { (n : ℕ) → 1 ≤ n → n ≤ greatest → reading (text n) ≡ Some n };
+    ghost back: { (n : ℕ) → 1 ≤ n → n ≤ GREATEST → reading (text n) ≡ Some n };
 
-    ghost only: { (t : List ℕ) (n : ℕ) → reading t ≡ Some n → Names greatest text t n };
+    ghost only: { (t : List ℕ) (n : ℕ) → reading t ≡ Some n → Names GREATEST text t n };
 
     // The last number that has a text, as a value.
     fn last_number(&self) -> u32
-        ensures { result ≡ greatest };
+        ensures { result ≡ GREATEST }
+    {
+        Self::GREATEST
+    }
 
     // The most bytes that a text has, as a value.
     fn text_limit(&self) -> usize
-        ensures { result ≡ longest };
+        ensures { result ≡ LONGEST }
+    {
+        Self::LONGEST
+    }
 
     // The text of n at the front of `out`, and its length; none, and nothing written, where n has no text or `out` is too short.
     fn write(&self, n: u32, out: &mut [u8]) -> Option<usize>
-        ensures count { result ≡ (if fits greatest (length (text n)) n (length out.old) then Some (length (text n)) else None) }
-        ensures out { out.new ≡ (if fits greatest (length (text n)) n (length out.old) then text n ++ drop (length (text n)) out.old else out.old) };
+        ensures count { result ≡ (if fits GREATEST (length (text n)) n (length out.old) then Some (length (text n)) else None) }
+        ensures out { out.new ≡ (if fits GREATEST (length (text n)) n (length out.old) then text n ++ drop (length (text n)) out.old else out.old) };
 
     // The number that the bytes are the text of, if there is one.
     fn read(&self, bytes: &[u8]) -> Option<u32>

@@ -3,9 +3,9 @@ use Rattle.std.proofs.Common.{◌≡◌, ℕ, zero, suc, ◌<◌, Bool, true, fa
 use lib.Utf8.{scalar, scalars, encode, encodes}
 use Rattle.std.proofs.lemmas.Bool.{and_parts, or_parts, eqb-true, cases_Bool, cases_eq}
 use Rattle.std.proofs.lemmas.Str.{encode_ascii, inside_one, IsUtf8-append, IsUtf8-encode, IsUtf8-nil}
-use Rattle.std.specs.List.{flat_map}
+use Rattle.std.specs.List.{flat_map, onto_first}
 use Rattle.events.specs.Checks.{holds}
-use Rattle.writer.specs.Written.{lengthened, pieces}
+use Rattle.writer.specs.Written.{pieces}
 use Rattle.wire.proofs.Chars.{holds_append, holds_parts}
 
 -- where a byte stands
@@ -39,7 +39,7 @@ before_first : (x s p : List ℕ) (ps : List (List ℕ)) → holds 10 x ≡ fals
 before_first [] s p ps h e = e
 before_first (b ∷ x) s p ps h e =
     let q = or_parts (eqb b 10) (holds 10 x) h in
-    ap (λ v. cond v ([] ∷ pieces (x ++ s)) (lengthened b (pieces (x ++ s)))) q.0 ∙ ap (lengthened b) (before_first x s p ps q.1 e)
+    ap (λ v. cond v ([] ∷ pieces (x ++ s)) (onto_first b (pieces (x ++ s)))) q.0 ∙ ap (onto_first b) (before_first x s p ps q.1 e)
 
 pub record Split (s : List ℕ) : Type 0 where
   pub first : List ℕ
@@ -81,15 +81,15 @@ abbrev pub with_lf : List ℕ → List ℕ
 with_lf p = p ++ 0x0A ∷ []
 
 -- One byte more before the first piece, where there is one.
-lengthened_lf : (b : ℕ) (ps : List (List ℕ)) (s : List ℕ) → flat_map with_lf ps ≡ with_lf s → flat_map with_lf (lengthened b ps) ≡ b ∷ with_lf s
-lengthened_lf b [] [] e = let z : ◌≡◌ {A = ℕ} 0 1 = cc e in absurd (omega arith)
-lengthened_lf b [] (x ∷ s) e = let z : ◌≡◌ {A = ℕ} 0 1 = cc e in absurd (omega arith)
-lengthened_lf b (p ∷ ps) s e = ap (λ t. b ∷ t) e
+onto_first_lf : (b : ℕ) (ps : List (List ℕ)) (s : List ℕ) → flat_map with_lf ps ≡ with_lf s → flat_map with_lf (onto_first b ps) ≡ b ∷ with_lf s
+onto_first_lf b [] [] e = let z : ◌≡◌ {A = ℕ} 0 1 = cc e in absurd (omega arith)
+onto_first_lf b [] (x ∷ s) e = let z : ◌≡◌ {A = ℕ} 0 1 = cc e in absurd (omega arith)
+onto_first_lf b (p ∷ ps) s e = ap (λ t. b ∷ t) e
 
 pub pieces_lf : (s : List ℕ) → flat_map with_lf (pieces s) ≡ with_lf s
 pieces_lf [] = refl
 pieces_lf (b ∷ s) = by (eqb b 0x0A) refl (pieces_lf s)
   where
-    by : (v : Bool) → eqb b 0x0A ≡ v → flat_map with_lf (pieces s) ≡ with_lf s → flat_map with_lf (cond v ([] ∷ pieces s) (lengthened b (pieces s))) ≡ b ∷ with_lf s
+    by : (v : Bool) → eqb b 0x0A ≡ v → flat_map with_lf (pieces s) ≡ with_lf s → flat_map with_lf (cond v ([] ∷ pieces s) (onto_first b (pieces s))) ≡ b ∷ with_lf s
     by true e ih = ap (λ t. 0x0A ∷ t) ih ∙ ap (λ x. x ∷ with_lf s) (sym (eqb-true b 0x0A e))
-    by false e ih = lengthened_lf b (pieces s) s ih
+    by false e ih = onto_first_lf b (pieces s) s ih

@@ -21,14 +21,12 @@ pub fn write_numbered<N: Numbering>(
     from: usize,
     out: &mut [u8],
 ) -> Option<usize>
-    ensures count { result ≡ (if has_text N.Numbering.greatest number then Some (count_of from (written end (N.Numbering.text number) (entry_of event.now)) out.old) else None) }
-    ensures out { out.new ≡ (if has_text N.Numbering.greatest number then filled from (written end (N.Numbering.text number) (entry_of event.now)) out.old else out.old) }
-    ensures lawful { 1 ≤ number → number ≤ N.Numbering.greatest → Lawful (sent_event (N.Numbering.text number) (entry_of event.now)) }
-    ensures alone { 1 ≤ number → number ≤ N.Numbering.greatest → Means (written end (N.Numbering.text number) (entry_of event.now)) (sent_event (N.Numbering.text number) (entry_of event.now) ∷ []) }
+    ensures count { result ≡ (if has_text N.Numbering.GREATEST number then Some (count_of from (written end (N.Numbering.text number) (entry_of event.now)) out.old) else None) }
+    ensures out { out.new ≡ (if has_text N.Numbering.GREATEST number then filled from (written end (N.Numbering.text number) (entry_of event.now)) out.old else out.old) }
+    ensures lawful { 1 ≤ number → number ≤ N.Numbering.GREATEST → Lawful (sent_event (N.Numbering.text number) (entry_of event.now)) }
+    ensures alone { 1 ≤ number → number ≤ N.Numbering.GREATEST → Means (written end (N.Numbering.text number) (entry_of event.now)) (sent_event (N.Numbering.text number) (entry_of event.now) ∷ []) }
 {
     let mut id = [0; 32];
-    match numbering.write(number, &mut id) {
-        Some(len) => Some(write_event(end, &id[0..len], event, from, out)),
-        None => None,
-    }
+    let len = numbering.write(number, &mut id)?;
+    Some(write_event(end, &id[..len], event, from, out))
 }

@@ -1,3 +1,1 @@
 pub mod Onto
-pub mod Splits
-pub mod Tens

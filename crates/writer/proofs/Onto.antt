@@ -1,68 +1,43 @@
 -- Writing onto a view: what one copy does, and that writing in bits is writing their whole.
-use Rattle.std.proofs.Common.{◌≡◌, ℕ, ◌+◌, ◌-◌, min, List, [], ◌++◌, length, take, drop, sym, refl, ap, ◌∙◌, ap₂, inl, inr, arith}
+use Rattle.std.proofs.Common.{◌≡◌, ℕ, ◌+◌, ◌-◌, min, List, [], ◌++◌, length, take, drop, sym, refl, ap, ◌∙◌, ap₂, subst, arith}
 use borrow.Rule.Slice.PartMut.{put_mid}
-use lib.Seq.{take-append-add}
-use Rattle.std.proofs.lemmas.List.{append_assoc, append-nil, drop_all, drop-append-le, drop_at, drop-drop, length-append, length-drop, length-take, take_all, take-append-drop, take-append-le}
+use Rattle.std.proofs.Math.Seq.{drop-nil}
+use Rattle.std.proofs.lemmas.List.{places, same_lists, take_min, drop_min, append_assoc, append-nil, drop-drop, length-append, length-drop, length-take, take_all, take-append-drop}
 use Rattle.std.proofs.lemmas.Slice.{drop-put_mid, take-put_mid}
-use Rattle.std.proofs.lemmas.Bool.{cases_lt}
 use Rattle.writer.specs.Filled.{count_of, filled}
-use Rattle.writer.specs.Views.{View, view_of, begun, onto}
+use Rattle.writer.specs.Views.{View, view_of, begun, onto, Puts}
 use Rattle.writer.specs.declared.window.Window.{Window}
 
--- what is past a list's end does not count
-take_min : (k n : ℕ) (l : List ℕ) → n ≡ min k (length l) → take n l ≡ take k l
-take_min k n l e =
-    elim (cases_lt k (length l)) [
-      | inl h ↦ let q : n ≡ k = omega arith in ap (λ (i : ℕ). take i l) q
-      | inr h ↦ take_all n l (omega arith) ∙ sym (take_all k l h)
-    ]
-
-drop_min : (k n : ℕ) (l : List ℕ) → n ≡ min k (length l) → drop n l ≡ drop k l
-drop_min k n l e =
-    elim (cases_lt k (length l)) [
-      | inl h ↦ let q : n ≡ k = omega arith in ap (λ (i : ℕ). drop i l) q
-      | inr h ↦ drop_all n l (omega arith) ∙ sym (drop_all k l h)
-    ]
-
 take_append : (n : ℕ) (a b : List ℕ) → take n (a ++ b) ≡ take n a ++ take (n - length a) b
-take_append n a b =
-    elim (cases_lt n (length a)) [
-      | inl h ↦ let none : n - length a ≡ 0 = omega arith in take-append-le n a b (omega arith) ∙ sym (ap (λ (k : ℕ). take n a ++ take k b) none ∙ append-nil (take n a))
-      | inr h ↦
-          let more : n ≡ length a + (n - length a) = omega arith in
-          ap (λ (k : ℕ). take k (a ++ b)) more ∙ take-append-add a b (n - length a) ∙ ap (λ (x : List ℕ). x ++ take (n - length a) b) (sym (take_all n a h))
-    ]
+take_append n a b = same_lists _ _ (simp (length-take, length-append) (omega arith)) (λ k d h. grind (arith, places))
 
 drop_append : (n : ℕ) (a b : List ℕ) → drop n (a ++ b) ≡ drop n a ++ drop (n - length a) b
-drop_append n a b =
-    elim (cases_lt n (length a)) [
-      | inl h ↦ let none : n - length a ≡ 0 = omega arith in drop-append-le n a b (omega arith) ∙ sym (ap (λ (k : ℕ). drop n a ++ drop k b) none)
-      | inr h ↦
-          let more : n ≡ length a + (n - length a) = omega arith in
-          ap (λ (k : ℕ). drop k (a ++ b)) more ∙ sym (drop-drop (n - length a) (length a) (a ++ b)) ∙ ap (drop (n - length a)) (drop_at a b (length a) refl) ∙ sym (ap (λ (x : List ℕ). x ++ drop (n - length a) b) (drop_all n a h))
-    ]
+drop_append n a b = same_lists _ _ (simp (length-drop, length-append) (omega arith)) (λ k d h. grind (arith, places))
 
 same_view : (s s' : ℕ) (d d' r r' : List ℕ) → s ≡ s' → d ≡ d' → r ≡ r' → ◌≡◌ {A = View} (record { skip = s; done = d; rest = r }) (record { skip = s'; done = d'; rest = r' })
 same_view s s' d d' r r' p q t = cc
 
 -- one copy of n bytes, from byte `from` of the bytes, to place `at` of the buffer
-module _ (v : View) (out bytes part : List ℕ) (to from at room n : ℕ) (left : room ≡ length out - to) (start : at ≡ length out - room) (skipped : from ≡ min v.skip (length bytes)) (fitting : n ≡ min (length bytes - from) room) where
+module _ (v : View) (out bytes part : List ℕ) (to from at n : ℕ) (within : at ≡ length (take to out)) (skipped : from ≡ min v.skip (length bytes)) (fitting : n ≡ min (length bytes - from) (length out - at)) where
   pub copied : v.done ≡ take to out → v.rest ≡ drop to out → part ≡ take (from + n - from) (drop from bytes) →
       ◌≡◌ {A = View} (record { skip = v.skip - from; done = take (at + n) (put_mid at (at + n - at) out part); rest = drop (at + n) (put_mid at (at + n - at) out part) }) (onto v bytes)
   unfolding onto
   copied d r p =
       let s = v.skip in
-      let within : at ≡ min to (length out) = omega arith in
+      let least : at ≡ min to (length out) = within ∙ length-take to out in
       let behind = length-drop s bytes in
       let places = length-drop to out in
       let whole : from + n - from ≡ n = omega arith in
-      let fits : at + n - at ≡ n = omega arith in
+      let taken : n ≡ min (length v.rest) (length (drop s bytes)) = omega (arith, ap length r) in
+      let gone : n ≡ min (length (drop s bytes)) (length v.rest) = omega arith in
+      let front : take at out ≡ v.done = ap (λ (i : ℕ). take i out) least ∙ take_min to out ∙ sym d in
+      let back : drop at out ≡ v.rest = ap (λ (i : ℕ). drop i out) least ∙ drop_min to out ∙ sym r in
       let shown : part ≡ take (length v.rest) (drop s bytes) =
-      p ∙ ap₂ take whole (drop_min s from bytes skipped) ∙ take_min (length v.rest) n (drop s bytes) (omega (arith, ap length r)) in
-      let size : length part ≡ n = omega (arith, ap length shown, length-take (length v.rest) (drop s bytes), ap length r) in
+      p ∙ ap₂ take whole (ap (λ (i : ℕ). drop i bytes) skipped ∙ drop_min s bytes) ∙ ap (λ (i : ℕ). take i (drop s bytes)) taken ∙ take_min (length v.rest) (drop s bytes) in
+      let size : length part ≡ n = omega (arith, ap length shown, length-take (length v.rest) (drop s bytes)) in
       same_view _ _ _ _ _ _ (omega arith)
-      (take-put_mid at (at + n - at) out part (at + n) (omega arith) (omega arith) ∙ ap₂ (λ (x y : List ℕ). x ++ y) (take_min to at out within ∙ sym d) shown)
-      (drop-put_mid at (at + n - at) out part (at + n) (omega arith) (omega arith) (omega arith) ∙ sym (drop-drop n at out) ∙ ap (drop n) (drop_min to at out within ∙ sym r) ∙ drop_min (length (drop s bytes)) n v.rest (omega (arith, ap length r)))
+      (take-put_mid at (at + n - at) out part (at + n) (omega arith) (omega arith) ∙ ap₂ (λ (x y : List ℕ). x ++ y) front shown)
+      (drop-put_mid at (at + n - at) out part (at + n) (omega arith) (omega arith) (omega arith) ∙ sym (drop-drop n at out) ∙ ap (drop n) back ∙ ap (λ (i : ℕ). drop i v.rest) gone ∙ drop_min (length (drop s bytes)) v.rest)
 
 pub onto_more : (v : View) (a b : List ℕ) → onto (onto v a) b ≡ onto v (a ++ b)
 unfolding onto
@@ -79,30 +54,37 @@ onto_more v a b =
     ∙ ap (λ (z : List ℕ). v.done ++ z) (ap (λ (k : ℕ). take (length v.rest) x ++ take k y) room ∙ sym (take_append (length v.rest) x y) ∙ ap (take (length v.rest)) (sym parts)))
     (drop-drop (length y) (length x) v.rest ∙ ap (λ (k : ℕ). drop k v.rest) both)
 
--- first `a` was written, then `b`
-pub onto_then : (v u w : View) (a b : List ℕ) → u ≡ onto v a → w ≡ onto u b → w ≡ onto v (a ++ b)
-onto_then v u w a b p q = q ∙ ap (λ (x : View). onto x b) p ∙ onto_more v a b
-
--- the same text by another term
-pub onto_same : (v u : View) (a b : List ℕ) → u ≡ onto v a → a ≡ b → u ≡ onto v b
-onto_same v u a b p q = p ∙ ap (onto v) q
-
-nothing_left : (k : ℕ) → drop {A = ℕ} k [] ≡ []
-nothing_left k = drop_all k [] (omega arith)
-
 pub onto_nothing : (v : View) → onto v [] ≡ v
 unfolding onto
 onto_nothing v =
     same_view _ _ _ _ _ _ (omega arith)
-    (ap (λ (x : List ℕ). v.done ++ take (length v.rest) x) (nothing_left v.skip) ∙ ap (λ (x : List ℕ). v.done ++ x) (take_all (length v.rest) [] (omega arith)) ∙ append-nil v.done)
-    (ap (λ (x : List ℕ). drop (length x) v.rest) (nothing_left v.skip))
+    (ap (λ (x : List ℕ). v.done ++ take (length v.rest) x) (drop-nil v.skip) ∙ ap (λ (x : List ℕ). v.done ++ x) (take_all (length v.rest) [] (omega arith)) ∙ append-nil v.done)
+    (ap (λ (x : List ℕ). drop (length x) v.rest) (drop-nil v.skip))
+
+-- first `x` was put, then `y`
+pub puts_then : {a b c : Window} {x y : List ℕ} → Puts a b x → Puts b c y → Puts a c (x ++ y)
+puts_then {a} {x = x} {y} p q = record {
+  view = q.view ∙ ap (λ (v : View). onto v y) p.view ∙ onto_more (view_of a) x y;
+  buffer = q.buffer ∙ p.buffer;
+  end = q.end ∙ p.end;
+}
+
+-- the same text by another term
+pub puts_same : {a b : Window} {x y : List ℕ} → Puts a b x → x ≡ y → Puts a b y
+puts_same {a} {b} p e = subst (Puts a b) e p
+
+pub puts_nothing : (a : Window) → Puts a a []
+puts_nothing a = record { view = sym (onto_nothing (view_of a)); buffer = refl; end = refl }
 
 -- what a window that began at byte `from` has made of the buffer
-module _ (w : Window) (from : ℕ) (text before after : List ℕ) (e : view_of w after ≡ onto (begun from before) text) where
-  pub shown_count : length (view_of w after).done ≡ count_of from text before
-  unfolding count_of begun onto
-  shown_count = ap (λ (v : View). length v.done) e ∙ length-take (length before) (drop from text)
+module _ {w now : Window} (from : ℕ) {text : List ℕ} (before : List ℕ) (e : view_of w ≡ begun from before) (p : Puts w now text) where
+  all : view_of now ≡ onto (begun from before) text
+  all = p.view ∙ ap (λ (v : View). onto v text) e
 
-  pub shown_bytes : after ≡ filled from text before
+  pub shown_count : length (view_of now).done ≡ count_of from text before
+  unfolding count_of begun onto
+  shown_count = ap (λ (v : View). length v.done) all ∙ length-take (length before) (drop from text)
+
+  pub shown_bytes : now.out.now ≡ filled from text before
   unfolding filled view_of begun onto
-  shown_bytes = sym (take-append-drop w.at after) ∙ ap (λ (v : View). v.done ++ v.rest) e
+  shown_bytes = sym (take-append-drop now.at now.out.now) ∙ ap (λ (v : View). v.done ++ v.rest) all

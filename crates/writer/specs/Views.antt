@@ -9,8 +9,8 @@ pub record View : Type 0 where
   pub done : List ℕ
   pub rest : List ℕ
 
-unfoldable pub view_of : Window → List ℕ → View
-view_of w out = record { skip = w.skip; done = take w.at out; rest = drop w.at out }
+unfoldable pub view_of : Window → View
+view_of w = record { skip = w.skip; done = take w.at w.out.now; rest = drop w.at w.out.now }
 
 -- nothing written yet, of a text from byte `from` on
 unfoldable pub begun : ℕ → List ℕ → View
@@ -23,6 +23,12 @@ onto v bytes = record {
   done = v.done ++ take (length v.rest) (drop v.skip bytes);
   rest = drop (length (drop v.skip bytes)) v.rest;
 }
+
+-- more of the text was put through a window: it lies over the same buffer still, and ends lines as before
+pub record Puts (was now : Window) (bytes : List ℕ) : Type 0 where
+  pub view : view_of now ≡ onto (view_of was) bytes
+  pub buffer : now.out.ghost_name ≡ was.out.ghost_name
+  pub end : now.end ≡ was.end
 
 example : onto (record { skip = 1; done = codes "a"; rest = codes "...." }) (codes "xbc") ≡ record { skip = 0; done = codes "abc"; rest = codes ".." }
 unfolding onto

@@ -1,7 +1,7 @@
 -- What a sender writes. An event is its id line, its event line unless the type is `message`, a data line for each piece of its data between LFs, and
 -- a blank line. Each line ends as the sender ends its lines.
-use Rattle.std.specs.Prelude.{◌≡◌, ℕ, cond, List, [], ◌∷◌, ◌++◌, codes, decimal, ◌==◌, refl}
-use Rattle.std.specs.List.{flat_map}
+use Rattle.std.specs.Prelude.{◌≡◌, ℕ, cond, List, [], ◌++◌, codes, decimal, ◌==◌, refl}
+use Rattle.std.specs.List.{flat_map, slice_split}
 use Rattle.std.specs.Fmt.{digits}
 use Rattle.std.specs.Str.{bytes_eq}
 use Rattle.events.specs.Entry.{Entry}
@@ -13,15 +13,9 @@ use Rattle.events.specs.declared.line_end.LineEnd.TheVariants.{Lf, CrLf, Cr}
 abbrev pub field_line : LineEnd → List ℕ → List ℕ → List ℕ
 field_line e name value = name ++ (codes ": " ++ (value ++ end_bytes e))
 
--- one byte more before the first piece
-abbrev pub lengthened : ℕ → List (List ℕ) → List (List ℕ)
-lengthened b [] = (b ∷ []) ∷ []
-lengthened b (p ∷ ps) = (b ∷ p) ∷ ps
-
 -- The pieces of data between LFs. Empty data is one empty piece.
 abbrev pub pieces : List ℕ → List (List ℕ)
-pieces [] = [] ∷ []
-pieces (b ∷ s) = cond (b == 0x0A) ([] ∷ pieces s) (lengthened b (pieces s))
+pieces body = slice_split (λ b. b == 0x0A) body
 
 abbrev pub id_line : LineEnd → List ℕ → List ℕ
 id_line e id = field_line e (codes "id") id

@@ -18,17 +18,13 @@ mod tests {
     fn events_whole_and_in_part(rt: HostRuntime) -> Result<(), Fail> {
         let mut out = [b'.'; 40];
         let mut end = [b'.'; 8];
-        match Entry::new(b"insert", b"0 17") {
-            Ok(event) => {
-                assert_eq!(rt; write_event(LineEnd::CrLf, b"1B", &event, 0, &mut out), 37);
-                assert_eq!(rt; write_event(LineEnd::Lf, b"1B", &event, 0, &mut out), 33);
-                assert!(rt; &out[0..33] == b"id: 1B\nevent: insert\ndata: 0 17\n\n".as_slice());
-                assert_eq!(rt; write_event(LineEnd::Lf, b"1B", &event, 30, &mut end), 3);
-                assert!(rt; end == *b"7\n\n.....");
-                Ok(())
-            }
-            Err(_) => Err(Fail::new("refused")),
-        }
+        let event = Entry::new(b"insert", b"0 17").map_err(|_| Fail::new("refused"))?;
+        assert_eq!(rt; write_event(LineEnd::CrLf, b"1B", &event, 0, &mut out), 37);
+        assert_eq!(rt; write_event(LineEnd::Lf, b"1B", &event, 0, &mut out), 33);
+        assert!(rt; &out[0..33] == b"id: 1B\nevent: insert\ndata: 0 17\n\n".as_slice());
+        assert_eq!(rt; write_event(LineEnd::Lf, b"1B", &event, 30, &mut end), 3);
+        assert!(rt; end == *b"7\n\n.....");
+        Ok(())
     }
 
     #[test]
@@ -38,13 +34,9 @@ mod tests {
         assert!(rt; out == *b"retry: 5000\n....");
         assert_eq!(rt; write_comment(LineEnd::Cr, 0, &mut out), 2);
         assert_eq!(rt; write_comment(LineEnd::Cr, 9, &mut out), 0);
-        match Entry::new(b"message", b"") {
-            Ok(event) => {
-                assert_eq!(rt; write_event(LineEnd::Lf, b"7", &event, 0, &mut out), 14);
-                assert!(rt; out == *b"id: 7\ndata: \n\n..");
-                Ok(())
-            }
-            Err(_) => Err(Fail::new("refused")),
-        }
+        let event = Entry::new(b"message", b"").map_err(|_| Fail::new("refused"))?;
+        assert_eq!(rt; write_event(LineEnd::Lf, b"7", &event, 0, &mut out), 14);
+        assert!(rt; out == *b"id: 7\ndata: \n\n..");
+        Ok(())
     }
 }

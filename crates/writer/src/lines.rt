@@ -1,103 +1,73 @@
 // The lines that a sender writes, written through a window.
-ghost use Rattle.std.specs.Prelude.{◌≡◌, ◌≤◌, [], length, codes, slice_index_or};
-ghost use Rattle.std.specs.Str.{bytes_eq};
 ghost use Rattle.events.specs.Entry.{entry_of};
 ghost use Rattle.events.specs.LineEnd.{end_bytes};
-ghost use Rattle.writer.specs.Views.{view_of, onto};
-ghost use Rattle.writer.specs.Written.{field_line, pieces, type_line, data_lines, written, comment_line, retry_line};
+ghost use Rattle.writer.specs.Views.{Puts};
+ghost use Rattle.writer.specs.Written.{field_line, type_line, data_lines, written, comment_line, retry_line};
 
 use crate::window::Window;
-use events::{Entry, LineEnd};
-use numbering::put_decimal;
+use events::{Entry, is_message};
+use itoa::Buffer;
 
-// The length of the first piece: how many bytes stand before the first LF.
-fn first_piece(data: &[u8]) -> usize
-    ensures count { result ≡ length (slice_index_or (pieces «data».now) 0 []) }
-    ensures within { result ≤ length «data».now }
-{
-    for (i, byte) in data.iter().enumerate() {
-        if *byte == b'\n' {
-            return i;
-        }
-    }
-    data.len()
-}
-
-// Whether it is the type that a reader takes where none is written.
-fn is_message(event_type: &[u8]) -> bool
-    ensures { result ≡ bytes_eq event_type.now (codes "message") }
-{
-    event_type == b"message".as_slice()
-}
-
-impl Window {
+impl Window<'_> {
     // The end of a line.
-    fn put_end(&mut self, end: LineEnd, out: &mut [u8])
-        ensures { view_of self.new out.new ≡ onto (view_of self.old out.old) (end_bytes end) }
+    fn put_end(&mut self)
+        ensures { Puts self.old self.new (end_bytes self.old.end) }
     {
-        self.put(end.bytes(), out);
+        self.put(self.end.bytes());
     }
 
     // The line of a field.
-    fn put_field(&mut self, end: LineEnd, name: &[u8], value: &[u8], out: &mut [u8])
-        ensures { view_of self.new out.new ≡ onto (view_of self.old out.old) (field_line end name.now value.now) }
+    fn put_field(&mut self, name: &[u8], value: &[u8])
+        ensures { Puts self.old self.new (field_line self.old.end name.now value.now) }
     {
-        self.put(name, out);
-        self.put(b": ", out);
-        self.put(value, out);
-        self.put_end(end, out);
+        self.put(name);
+        self.put(b": ");
+        self.put(value);
+        self.put_end();
     }
 
     // The line of a type, which is left out for `message`.
-    fn put_type(&mut self, end: LineEnd, event_type: &[u8], out: &mut [u8])
-        ensures { view_of self.new out.new ≡ onto (view_of self.old out.old) (type_line end event_type.now) }
+    fn put_type(&mut self, event_type: &[u8])
+        ensures { Puts self.old self.new (type_line self.old.end event_type.now) }
     {
         if !is_message(event_type) {
-            self.put_field(end, b"event", event_type, out);
+            self.put_field(b"event", event_type);
         }
     }
 
     // A line for each piece of the data between LFs.
-    fn put_data(&mut self, end: LineEnd, data: &[u8], out: &mut [u8])
-        ensures { view_of self.new out.new ≡ onto (view_of self.old out.old) (data_lines end «data».now) }
+    fn put_data(&mut self, data: &[u8])
+        ensures { Puts self.old self.new (data_lines self.old.end «data».now) }
     {
-        let mut left = data;
-        loop {
-            let n = first_piece(left);
-            self.put_field(end, b"data", &left[0..n], out);
-            if n == left.len() {
-                return;
-            }
-            left = &left[n + 1..];
+        for piece in data.split(|b| *b == b'\n') {
+            self.put_field(b"data", piece);
         }
     }
 
     // An event and the blank line that ends it.
-    pub(crate) fn put_event(&mut self, end: LineEnd, id: &[u8], event: &Entry, out: &mut [u8])
-        ensures { view_of self.new out.new ≡ onto (view_of self.old out.old) (written end id.now (entry_of event.now)) }
+    pub(crate) fn put_event(&mut self, id: &[u8], event: &Entry)
+        ensures { Puts self.old self.new (written self.old.end id.now (entry_of event.now)) }
     {
-        self.put_field(end, b"id", id, out);
-        self.put_type(end, event.event_type(), out);
-        self.put_data(end, event.data(), out);
-        self.put_end(end, out);
+        self.put_field(b"id", id);
+        self.put_type(event.event_type());
+        self.put_data(event.data());
+        self.put_end();
     }
 
     // The comment that says nothing.
-    pub(crate) fn put_comment(&mut self, end: LineEnd, out: &mut [u8])
-        ensures { view_of self.new out.new ≡ onto (view_of self.old out.old) (comment_line end) }
+    pub(crate) fn put_comment(&mut self)
+        ensures { Puts self.old self.new (comment_line self.old.end) }
     {
-        self.put(b":", out);
-        self.put_end(end, out);
+        self.put(b":");
+        self.put_end();
     }
 
     // The line of a reconnection time in milliseconds.
-    pub(crate) fn put_retry(&mut self, end: LineEnd, time: u32, out: &mut [u8])
-        ensures { view_of self.new out.new ≡ onto (view_of self.old out.old) (retry_line end time) }
+    #[tactic(auto, unfolding(crate::specs::Written::retry_line))]
+    pub(crate) fn put_retry(&mut self, time: u32)
+        ensures { Puts self.old self.new (retry_line self.old.end time) }
     {
-        let mut digits = [0; 10];
-        match put_decimal(time, &mut digits) {
-            Some(len) => self.put_field(end, b"retry", &digits[0..len], out),
-            None => unreachable(),
-        }
+        let mut digits = Buffer::new();
+        self.put_field(b"retry", digits.format(time).as_bytes());
     }
 }

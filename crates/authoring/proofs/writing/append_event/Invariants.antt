@@ -6,7 +6,7 @@ use Rattle.authoring.proofs.writing.append_event.Given as goal
 
 abbrev pub invariant-loop-count : goal.invariant-loop-count
 invariant-loop-count g l =
-    SoFar g.N.Numbering.greatest l.number (written l.end (g.N.Numbering.text l.number) (entry_of l.event)) (vec_items l.initial.stream) (vec_items l.stream) (length l.part) l.from
+    SoFar g.N.Numbering.GREATEST l.number (written l.end (g.N.Numbering.text l.number) (entry_of l.event)) (vec_items l.initial.stream) (vec_items l.stream) (length l.part) l.from
 
 abbrev pub decreases-loop-count : goal.decreases-loop-count
 decreases-loop-count g l = length (written l.end (g.N.Numbering.text l.number) (entry_of l.event)) - l.from

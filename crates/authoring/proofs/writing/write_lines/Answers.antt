@@ -13,14 +13,14 @@ loop-rest-smaller g c =
 pub returns-in-Some : goal.returns-in-Some
 returns-in-Some g c =
     let h : 0 < length c.loop-rest.rest.now = search rules in
-    stopped g.N.Numbering.greatest g.N.Numbering.text c.args.end (outcome g.N.Numbering.greatest g.N.Numbering.text c.args.end 1 (all_lines c.args.text.now)) (vec_items c.args.stream.now) (vec_items c.loop-rest.stream) c.loop-rest.rest.now c.loop-rest.line c.loop-rest.invariant c.cut_line.result.0.now (vec_items c.write_line.new.stream) c.in-Some.cause h c.cut_line.ensures.line (subst (Wrote g.N.Numbering.greatest g.N.Numbering.text c.args.end c.loop-rest.line c.cut_line.result.0.now (vec_items c.loop-rest.stream) (vec_items c.write_line.new.stream)) c.in-Some.is c.in_ok-cause.ensures)
+    stopped g.N.Numbering.GREATEST g.N.Numbering.text c.args.end (outcome g.N.Numbering.GREATEST g.N.Numbering.text c.args.end 1 (all_lines c.args.text.now)) (vec_items c.args.stream.now) (vec_items c.loop-rest.stream) c.loop-rest.rest.now c.loop-rest.line c.loop-rest.invariant c.cut_line.result.0.now (vec_items c.write_line.new.stream) c.in-Some.cause h c.cut_line.ensures.line (subst (Wrote g.N.Numbering.GREATEST g.N.Numbering.text c.args.end c.loop-rest.line c.cut_line.result.0.now (vec_items c.loop-rest.stream) (vec_items c.write_line.new.stream)) c.in-Some.is c.in_ok-cause.ensures)
 
 pub loop-rest-preserved : goal.loop-rest-preserved
 loop-rest-preserved g c =
     let h : 0 < length c.loop-rest.rest.now = search rules in
-    one_more g.N.Numbering.greatest g.N.Numbering.text c.args.end (outcome g.N.Numbering.greatest g.N.Numbering.text c.args.end 1 (all_lines c.args.text.now)) (vec_items c.args.stream.now) (vec_items c.loop-rest.stream) c.loop-rest.rest.now c.loop-rest.line c.loop-rest.invariant c.cut_line.result.0.now c.cut_line.result.1.now (vec_items c.write_line.new.stream) h c.cut_line.ensures.line c.cut_line.ensures.rest (subst (Wrote g.N.Numbering.greatest g.N.Numbering.text c.args.end c.loop-rest.line c.cut_line.result.0.now (vec_items c.loop-rest.stream) (vec_items c.write_line.new.stream)) c.in_default.is c.in_ok-cause.ensures)
+    one_more g.N.Numbering.GREATEST g.N.Numbering.text c.args.end (outcome g.N.Numbering.GREATEST g.N.Numbering.text c.args.end 1 (all_lines c.args.text.now)) (vec_items c.args.stream.now) (vec_items c.loop-rest.stream) c.loop-rest.rest.now c.loop-rest.line c.loop-rest.invariant c.cut_line.result.0.now c.cut_line.result.1.now (vec_items c.write_line.new.stream) h c.cut_line.ensures.line c.cut_line.ensures.rest (subst (Wrote g.N.Numbering.GREATEST g.N.Numbering.text c.args.end c.loop-rest.line c.cut_line.result.0.now (vec_items c.loop-rest.stream) (vec_items c.write_line.new.stream)) c.in_default.is c.in_ok-cause.ensures)
 
 pub returns : goal.returns
 returns g c =
     let h : length c.loop-rest.rest.now ≡ 0 = search rules in
-    ended g.N.Numbering.greatest g.N.Numbering.text c.args.end (outcome g.N.Numbering.greatest g.N.Numbering.text c.args.end 1 (all_lines c.args.text.now)) (vec_items c.args.stream.now) (vec_items c.loop-rest.stream) c.loop-rest.rest.now c.loop-rest.line c.loop-rest.invariant h
+    ended g.N.Numbering.GREATEST g.N.Numbering.text c.args.end (outcome g.N.Numbering.GREATEST g.N.Numbering.text c.args.end 1 (all_lines c.args.text.now)) (vec_items c.args.stream.now) (vec_items c.loop-rest.stream) c.loop-rest.rest.now c.loop-rest.line c.loop-rest.invariant h

@@ -6,4 +6,4 @@ use Rattle.numbering.proofs.banks.BankNumbering.read.Goals as goal
 pub overflow_sub-result : goal.overflow_sub-result
 overflow_sub-result c =
     let bytes = c.args.bytes.now in
-    (decimal_numeral 1000000 (take (length bytes - 1 - 0) bytes) c.in-Some.bank (omega arith) (sym c.in-Some.ensures)).one
+    (decimal_numeral 1000000 (take (length bytes - 1) bytes) c.in_ok-bank.bank (omega arith) (sym c.in_ok-bank.ensures)).one
