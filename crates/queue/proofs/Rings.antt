@@ -110,3 +110,6 @@ ring_rest mem s len n p e h q d = ap (λ m. ring mem (m + 1) (n - 1)) q ∙ sym 
 
 pub ring_rest_none : {T : Type 0} (mem : List T) (s len : ℕ) → min len (length mem) ≡ 0 → ring mem s len ≡ drop 1 (ring mem s len)
 ring_rest_none mem s len e = let q = ring_empty mem s len e in q ∙ sym (ap (drop 1) q)
+
+-- what each call's proof draws on
+pub ruleset ring_laws = (length_ring, ring_none, ring_get, ring_past, ring_push, ring_rest, ring_rest_none)

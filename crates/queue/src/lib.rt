@@ -1,6 +1,6 @@
 // First in, first out: one ring over lent memory, for every element that is `Copy`.
 
-#![tactic(auto)]
+#![tactic(auto, using(crate::proofs::Rings::ring_laws))]
 
 ghost use Rattle.std.specs.Prelude.{◌≡◌, ◌-◌, ◌<◌, ◌≤◌, min, [], ◌∷◌, ◌++◌, length, take, drop, is_ok, if◌then◌else◌, ◌==◌, nat_lt};
 ghost use Rattle.std.specs.List.{slice_get};
@@ -19,6 +19,7 @@ pub struct Queue<'a, T> {
 }
 
 // Where item i lies.
+#[tactic(auto, unfolding(crate::specs::Ring::place_of))]
 fn place(capacity: usize, start: usize, i: usize) -> usize
     requires { i < capacity }
     ensures within { result < capacity }
