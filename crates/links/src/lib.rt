@@ -1,6 +1,6 @@
 // Bytes on their way: what a link is, a pipe over lent memory and a mailbox.
 
-#![tactic(auto)]
+#![tactic(auto, using(crate::proofs::Held::link_laws))]
 
 mod mailboxes;
 mod pipes;
