@@ -1,6 +1,6 @@
 // How programs print events, and the sinks that they print from.
 
-#![tactic(auto)]
+#![tactic(auto, using(crate::proofs::Clipping::clipping_laws))]
 
 mod end;
 mod page;
