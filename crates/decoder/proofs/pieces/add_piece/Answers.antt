@@ -16,4 +16,4 @@ loop-byte-preserved c =
 pub returns : goal.returns
 returns c =
     let done = ends (subst (Leads reads _ _ _ _) (at_drop_all (λ s. s) _ _ c.loop-byte-test.false) c.loop-byte.invariant) in
-    record { state = λ _. done.0; out = λ _. done.1 }
+    λ _. cc (done.0, done.1)
