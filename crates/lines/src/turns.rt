@@ -10,7 +10,7 @@ ghost use Rattle.lines.specs.Code.{text_of, line_answer, text_answer, answered, 
 use crate::fault::LineFault;
 use crate::text::Lines;
 use buffer::{Buffer, Full};
-use decoder::{Character, Given};
+use decoder::{Character, Given, REPLACEMENT};
 use fields::Fields;
 use sink::Sink;
 
@@ -103,13 +103,13 @@ impl Lines {
         ensures sink { S.Sink.state sink.new ≡ (hand_char S.Sink.refusal S.Sink.after (text_of self.old) (S.Sink.state sink.old) (bytes_of c)).sink }
         ensures answer { line_answer result ≡ (hand_char S.Sink.refusal S.Sink.after (text_of self.old) (S.Sink.state sink.old) (bytes_of c)).answer }
     {
-        match c {
-            Character::One(a) => return self.byte(a, sink),
-            Character::Two(a, b) => self.append(&[a, b])?,
-            Character::Three(a, b, c) => self.append(&[a, b, c])?,
-            Character::Four(a, b, c, d) => self.append(&[a, b, c, d])?,
+        match c.as_bytes() {
+            [byte] => self.byte(*byte, sink),
+            bytes => {
+                self.append(bytes)?;
+                Ok(false)
+            }
         }
-        Ok(false)
     }
 
     // The characters that a byte gave. Answers whether they kept an event.
@@ -123,7 +123,7 @@ impl Lines {
             Given::Nothing => Ok(false),
             Given::One(c) => self.character(c, sink),
             Given::Replaced(c) => {
-                self.append(&[0xEF, 0xBF, 0xBD])?;
+                self.append(REPLACEMENT.as_bytes())?;
                 self.character(c, sink)
             }
         }

@@ -15,7 +15,7 @@ returns-in_err-append-in-Replaced g c =
     let f = c.in_err-append-in-Replaced.field-0.0 in
     let told = c.in_err-append-in-Replaced.ensures in
     let p = err_from_is_err_and c.from_residual.result c.from_residual.ensures.1 in
-    let came = replaced_too_long k.refusal k.after t x (bytes_of c.in-Replaced.c) (text_of c.append.new.self) (line_cause f) told.text told.answer in
+    let came = replaced_too_long k.refusal k.after t x (bytes_of c.in-Replaced.c) (text_of c.append.new.self) (line_cause f) (rw c.as_bytes.ensures at told.text) (rw c.as_bytes.ensures at told.answer) in
     let done = subst (λ gs. Came k.refusal k.after (hand_chars k.refusal k.after t x gs) (text_of c.append.new.self) x (faulted (line_cause f))) (sym (ap chars_of c.in-Replaced.is)) came in
     record { text = done.text; sink = done.sink; answer = ap line_answer p.1 ∙ ap (λ e. line_answer (Err e)) p.2 ∙ done.answer; few = done.few }
 
@@ -26,6 +26,6 @@ returns-in_ok-append-in-Replaced g c =
     let x = k.state c.args.sink.now in
     let told = c.in_ok-append-in-Replaced.ensures in
     let then = c.character-in-Replaced.ensures in
-    let came = replaced_and_more k.refusal k.after t x (bytes_of c.in-Replaced.c) (text_of c.append.new.self) (text_of c.character-in-Replaced.new.self) (k.state c.character-in-Replaced.new.sink) (line_answer c.character-in-Replaced.result) told.text told.answer then.text then.sink then.answer in
+    let came = replaced_and_more k.refusal k.after t x (bytes_of c.in-Replaced.c) (text_of c.append.new.self) (text_of c.character-in-Replaced.new.self) (k.state c.character-in-Replaced.new.sink) (line_answer c.character-in-Replaced.result) (rw c.as_bytes.ensures at told.text) (rw c.as_bytes.ensures at told.answer) then.text then.sink then.answer in
     let done = subst (λ gs. Came k.refusal k.after (hand_chars k.refusal k.after t x gs) (text_of c.character-in-Replaced.new.self) (k.state c.character-in-Replaced.new.sink) (line_answer c.character-in-Replaced.result)) (sym (ap chars_of c.in-Replaced.is)) came in
     record { text = done.text; sink = done.sink; answer = done.answer; few = done.few }
