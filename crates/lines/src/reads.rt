@@ -102,7 +102,8 @@ impl Reader {
     }
 }
 
-// What a byte does to the text. One that passes as it stands is not pushed, which spares most of the work.
+// What a byte does to the text. One that passes as it stands is not pushed, which spares most of the work. It takes the two
+// fields and no reader, since a contract on the reader would also have to say that byte and fault stay.
 fn take_in<S: Sink>(
     decoder: &mut Decoder,
     lines: &mut Lines,

@@ -44,15 +44,6 @@ impl Lines {
         Ok(())
     }
 
-    // The same for one byte.
-    fn append_one(&mut self, byte: u8) -> Result<(), LineFault>
-        ensures { appended self.new result ≡ turned (text_of self.old) (longer (text_of self.old).line (byte ∷ [])) }
-    {
-        self.line.push(byte)?;
-        self.after_cr = false;
-        Ok(())
-    }
-
     // The end of a line, by a CR or not.
     fn end<S: Sink>(&mut self, cr: bool, sink: &mut S) -> Result<bool, LineFault>
         ensures { handed self.new (S.Sink.state sink.new) result ≡ hand_turn S.Sink.refusal S.Sink.after (text_of self.old) (S.Sink.state sink.old) (ended (record { after_cr = cr; built = [] }) (text_of self.old).line.built) }
@@ -76,7 +67,7 @@ impl Lines {
             b'\n' => self.end(false, sink),
             b'\r' => self.end(true, sink),
             _ => {
-                self.append_one(byte)?;
+                self.append(&[byte])?;
                 Ok(false)
             }
         }
