@@ -1,5 +1,5 @@
 -- Reading byte by byte, from a place of a stream on.
-use Rattle.std.proofs.Common.{◌≡◌, ℕ, ◌+◌, List, [], ◌∷◌, Some, None, Option, sym, refl, ap, ◌∙◌, add-zero, add_assoc, zero-add}
+use Rattle.std.proofs.Common.{◌≡◌, ℕ, ◌+◌, List, [], ◌∷◌, Some, None, Option, sym, refl, ap, ◌∙◌, add-zero, add_assoc}
 use Rattle.events.specs.Event.{Event}
 use Rattle.lines.specs.Reader.{Fault, Reader, reading, stopped, fault_of, Pushed, push, reads}
 use Rattle.lines.specs.declared.fault.Fault.{Fault as Stop}
@@ -17,11 +17,6 @@ module _ {X : Type 0} (refusal : X → Event → ℕ) (after : X → Event → X
   -- From a reader and a sink, with n events kept so far, s leads to `all`.
   pub record Leads (all : Pushed X) (r : Reader) (x : X) (n : ℕ) (s : List ℕ) : Type 0 where
     pub to : more n (reads refusal after r x s) ≡ all
-
-  pub begins : (r : Reader) (x : X) (s : List ℕ) → Leads (reads refusal after r x s) r x 0 s
-  begins r x s =
-      let p = reads refusal after r x s in
-      record { to = ap (λ m. record { reader = p.reader; sink = p.sink; kept = m }) (zero-add p.kept) }
 
   pub ends : {all : Pushed X} {r : Reader} {x : X} {n : ℕ} → Leads all r x n [] → record { reader = r; sink = x; kept = n } ≡ all
   ends {r = r} {x = x} {n = n} l = none_more r x n ∙ l.to
