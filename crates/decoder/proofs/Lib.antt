@@ -1,4 +1,3 @@
-pub mod Table
 pub mod Ranges
 pub mod Whole
 pub mod Related

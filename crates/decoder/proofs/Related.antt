@@ -1,5 +1,6 @@
 -- The function and the relation say the same.
 use Rattle.std.proofs.Common.{◌≡◌, ℕ, zero, suc, Bool, true, false, cond, List, [], ◌∷◌, ◌++◌, length, take, drop, refl, ap, ◌∙◌, subst}
+use Rattle.std.proofs.Math.Seq.{take-append_seam, drop-append_seam}
 use Rattle.decoder.specs.Standard.{Range, lies, Lead, lead, stray, lead_of, Char, replacement, Found, further, look, look_from, chars_after}
 use Rattle.decoder.specs.Standard as std
 use Rattle.decoder.specs.Relation.{Fits, none, one, Partly, stops, goes, Chars, done, character, alone, broken, unfinished}
@@ -25,21 +26,13 @@ looked (r ∷ rs) (b ∷ s) = by (looked rs s) (lies r b) refl
     by ih true e = longer r b e ih
     by ih false e = not b s stops e
 
-drops : {A : Type 0} (fs s : List A) → drop (length fs) (fs ++ s) ≡ s
-drops [] s = refl
-drops (f ∷ fs) s = drops fs s
-
-takes : {A : Type 0} (fs s : List A) → take (length fs) (fs ++ s) ≡ fs
-takes [] s = refl
-takes (f ∷ fs) s = ap (λ t. f ∷ t) (takes fs s)
-
 abbrev shown : ℕ → List ℕ → Found → List Char
 shown b s f = elim f [ std.whole n ↦ (b ∷ take n s) ∷ chars_after n s | std.broken n ↦ replacement ∷ chars_after n s | std.short ↦ [] ]
 
 -- the first character, and the rest, as its induction gives it
 first : (b : ℕ) {rs : List Range} {s : List ℕ} {f : Found} → lead_of b ≡ lead rs → Looked rs s f → ((k : ℕ) → Chars (drop k s) (chars_after k s)) → Chars (b ∷ s) (shown b s f)
-first b l (all {fs = fs} s h) ih = rw (takes fs s) (character l h (subst (λ t. Chars t (chars_after (length fs) (fs ++ s))) (drops fs s) (ih (length fs))))
-first b l (not {fs = fs} c s h n) ih = broken l h n (subst (λ t. Chars t (chars_after (length fs) (fs ++ c ∷ s))) (drops fs (c ∷ s)) (ih (length fs)))
+first b l (all {fs = fs} s h) ih = rw (take-append_seam fs s) (character l h (subst (λ t. Chars t (chars_after (length fs) (fs ++ s))) (drop-append_seam fs s) (ih (length fs))))
+first b l (not {fs = fs} c s h n) ih = broken l h n (subst (λ t. Chars t (chars_after (length fs) (fs ++ c ∷ s))) (drop-append_seam fs (c ∷ s)) (ih (length fs)))
 first b l (end h) ih = unfinished l h
 
 pub related : (s : List ℕ) (skip : ℕ) → Chars (drop skip s) (chars_after skip s)
@@ -74,7 +67,7 @@ found b s l q = ap (λ x. shown b s (look_from x s)) l ∙ ap (shown b s) q
 
 pub unique : {s : List ℕ} {cs : List Char} → Chars s cs → chars_after 0 s ≡ cs
 unique done = refl
-unique (character {b = b} {fs = fs} {s = s} l h k) = found b (fs ++ s) l (fits h s) ∙ simp (takes, passes, unique k)
+unique (character {b = b} {fs = fs} {s = s} l h k) = found b (fs ++ s) l (fits h s) ∙ simp (take-append_seam, passes, unique k)
 unique (alone {b = b} {s = s} l k) = ap (λ x. shown b s (look_from x s)) l ∙ ap (λ t. replacement ∷ t) (unique k)
 unique (broken {b = b} {c = c} {fs = fs} {s = s} l h n k) = found b (fs ++ c ∷ s) l (breaks h c s n) ∙ ap (λ t. replacement ∷ t) (passes fs (c ∷ s) ∙ unique k)
 unique (unfinished {b = b} {fs = fs} l h) = found b fs l (lacks h)

@@ -1,5 +1,6 @@
 -- What the machine gives is what the standard says of the whole stream.
 use Rattle.std.proofs.Common.{◌≡◌, ℕ, zero, suc, Bool, true, false, cond, List, [], ◌∷◌, ◌++◌, take, drop, sym, refl, ap, ◌∙◌, append_assoc, append-nil}
+use Rattle.std.proofs.lemmas.Grind.{flat_map-append}
 use Rattle.decoder.specs.Standard.{Range, lies, Lead, lead, stray, lead_of, Char, replacement, is_mark, unmarked, Found, whole, broken, short, further, look, look_from, chars_after, chars, text, decoded}
 use Rattle.machine.specs.Run.{Step, also, run}
 use Rattle.decoder.specs.Machine.{Reading, between, wanting, begun, advance, State, fresh, kept, moved, step, reads}
@@ -89,13 +90,9 @@ runs s st = ap (λ t. t.out) (marked_runs s st)
 pub chars_so_far : (s : List ℕ) → (run step fresh s).out ≡ chars s
 chars_so_far s = runs s fresh ∙ ap unmarked (agree s 0)
 
-text_append : (cs ds : List Char) → text (cs ++ ds) ≡ text cs ++ text ds
-text_append [] ds = refl
-text_append (c ∷ cs) ds = ap (λ t. c ++ t) (text_append cs ds) ∙ sym (append_assoc c (text cs) (text ds))
-
 texts : (s : List ℕ) (st : State) → (run reads st s).out ≡ text (run step st s).out
 texts [] st = refl
-texts (b ∷ s) st = ap (λ t. text (step st b).out ++ t) (texts s (step st b).state) ∙ sym (text_append (step st b).out (run step (step st b).state s).out)
+texts (b ∷ s) st = ap (λ t. text (step st b).out ++ t) (texts s (step st b).state) ∙ sym (flat_map-append (λ (c : Char). c) (step st b).out (run step (step st b).state s).out)
 
 pub text_so_far : (s : List ℕ) → (run reads fresh s).out ≡ decoded s
 text_so_far s = texts s fresh ∙ ap text (chars_so_far s)

@@ -7,18 +7,15 @@ use Rattle.decoder.specs.declared.character.Given.TheVariants as given
 use Rattle.decoder.specs.declared.decoder.Decoder.{Decoder}
 use Rattle.decoder.specs.declared.decoder.Pending.{Pending}
 use Rattle.decoder.specs.declared.decoder.Pending.TheVariants.{Nothing, OneOfTwo, OneOfThree, TwoOfThree, OneOfFour, TwoOfFour, ThreeOfFour}
+use Rattle.machine.specs.Run.{Step}
 use Rattle.decoder.specs.Standard.{Char, replacement, following, second}
 use Rattle.decoder.specs.Machine.{Reading, between, inside, State}
 
 abbrev pub bytes_of : Character → Char
-bytes_of (One a) = a ∷ []
-bytes_of (Two a b) = a ∷ b ∷ []
-bytes_of (Three a b c) = a ∷ b ∷ c ∷ []
-bytes_of (Four a b c d) = a ∷ b ∷ c ∷ d ∷ []
-
-abbrev pub maybe : Option Character → List Char
-maybe None = []
-maybe (Some c) = bytes_of c ∷ []
+bytes_of (One bytes) = bytes
+bytes_of (Two bytes) = bytes
+bytes_of (Three bytes) = bytes
+bytes_of (Four bytes) = bytes
 
 abbrev pub chars_of : Given → List Char
 chars_of given.Nothing = []
@@ -33,6 +30,13 @@ reading_of (TwoOfThree a b) = inside (a ∷ b ∷ []) following []
 reading_of (OneOfFour a) = inside (a ∷ []) (second a) (following ∷ following ∷ [])
 reading_of (TwoOfFour a b) = inside (a ∷ b ∷ []) following (following ∷ [])
 reading_of (ThreeOfFour a b c) = inside (a ∷ b ∷ c ∷ []) following []
+
+-- What a byte leads to where a character may begin, and anywhere.
+abbrev pub begun_turn : Pending × Option Character → Step Reading Char
+begun_turn t = record { state = reading_of t.0; out = elim t.1 [ None ↦ [] | Some c ↦ bytes_of c ∷ [] ] }
+
+abbrev pub given_turn : Pending × Given → Step Reading Char
+given_turn t = record { state = reading_of t.0; out = chars_of t.1 }
 
 abbrev pub state_of : Decoder → State
 state_of d = record { started = d.started; reading = reading_of d.pending }

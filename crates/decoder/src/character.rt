@@ -6,24 +6,36 @@ ghost use Rattle.decoder.specs.Code.{bytes_of};
 // A character, as its bytes in UTF-8.
 #[derive(Clone, Copy, Debug, PartialEq)]
 pub enum Character {
-    One(u8),
-    Two(u8, u8),
-    Three(u8, u8, u8),
-    Four(u8, u8, u8, u8),
+    One([u8; 1]),
+    Two([u8; 2]),
+    Three([u8; 3]),
+    Four([u8; 4]),
 }
 
 // U+FFFD, which stands for what is not well-formed.
-pub const REPLACEMENT: Character = Character::Three(0xEF, 0xBF, 0xBD);
+pub const REPLACEMENT: Character = Character::Three([0xEF, 0xBF, 0xBD]);
+
+// U+FEFF, the byte order mark.
+const MARK: Character = Character::Three([0xEF, 0xBB, 0xBF]);
 
 impl Character {
-    // Whether this is U+FEFF, the byte order mark.
+    // Its bytes in UTF-8.
+    pub fn as_bytes(&self) -> &[u8]
+        ensures { result.now ≡ bytes_of self.now }
+    {
+        match self {
+            Character::One(bytes) => bytes,
+            Character::Two(bytes) => bytes,
+            Character::Three(bytes) => bytes,
+            Character::Four(bytes) => bytes,
+        }
+    }
+
+    // Whether this is the byte order mark.
     pub(crate) fn is_mark(self) -> bool
         ensures { result ≡ is_mark (bytes_of self) }
     {
-        match self {
-            Character::Three(a, b, c) => a == 0xEF && b == 0xBB && c == 0xBF,
-            _ => false,
-        }
+        self == MARK
     }
 }
 

@@ -1,14 +1,14 @@
 // The decoder: what it holds between two bytes, and what a byte does.
-ghost use Rattle.std.specs.Prelude.{◌≡◌, false, [], ◌∷◌};
+ghost use Rattle.std.specs.Prelude.{◌≡◌, [], ◌∷◌};
 ghost use Rattle.machine.specs.Run.{also};
 ghost use Rattle.decoder.specs.Standard.{lead_of, second, lies, following, replacement};
-ghost use Rattle.decoder.specs.Machine.{begun, advance, kept, moved, step, passes, fresh};
-ghost use Rattle.decoder.specs.Code.{reading_of, state_of, maybe, chars_of};
+ghost use Rattle.decoder.specs.Machine.{between, begun, advance, step, passes, fresh};
+ghost use Rattle.decoder.specs.Code.{bytes_of, reading_of, state_of, chars_of, begun_turn, given_turn};
 
 use crate::character::{Character, Given, REPLACEMENT};
-use crate::width::width;
 
-// The bytes of an unfinished character, by how many they are of how many.
+// The bytes of an unfinished character, by how many they are of how many. A state and no closure or iterator, since a
+// stream may be cut after any byte and a decoder has no heap.
 #[derive(Clone, Copy)]
 enum Pending {
     Nothing,
@@ -20,49 +20,26 @@ enum Pending {
     ThreeOfFour(u8, u8, u8),
 }
 
-#[derive(Clone, Copy)]
-struct Begun {
-    pending: Pending,
-    out: Option<Character>,
-}
-
-#[derive(Clone, Copy)]
-struct Next {
-    pending: Pending,
-    out: Given,
-}
-
 // What a byte means where a character may begin.
-fn begin(byte: u8) -> Begun
-    ensures pending { reading_of result.pending ≡ (begun (lead_of byte) byte).state }
-    ensures out { maybe result.out ≡ (begun (lead_of byte) byte).out }
+fn begin(byte: u8) -> (Pending, Option<Character>)
+    ensures { begun_turn result ≡ begun (lead_of byte) byte }
 {
-    let (pending, out) = match width(byte) {
-        0 => (Pending::Nothing, Some(REPLACEMENT)),
-        1 => (Pending::Nothing, Some(Character::One(byte))),
-        2 => (Pending::OneOfTwo(byte), None),
-        3 => (Pending::OneOfThree(byte), None),
-        _ => (Pending::OneOfFour(byte), None),
-    };
-    Begun { pending, out }
+    match byte {
+        0x00..=0x7F => (Pending::Nothing, Some(Character::One([byte]))),
+        0xC2..=0xDF => (Pending::OneOfTwo(byte), None),
+        0xE0..=0xEF => (Pending::OneOfThree(byte), None),
+        0xF0..=0xF4 => (Pending::OneOfFour(byte), None),
+        _ => (Pending::Nothing, Some(REPLACEMENT)),
+    }
 }
 
 // What a byte means that does not go on the character before it.
-fn restart(byte: u8) -> Next
-    ensures pending { reading_of result.pending ≡ (begun (lead_of byte) byte).state }
-    ensures out { chars_of result.out ≡ (also (replacement ∷ []) (begun (lead_of byte) byte)).out }
+fn restart(byte: u8) -> (Pending, Given)
+    ensures { given_turn result ≡ also (replacement ∷ []) (begun (lead_of byte) byte) }
 {
-    let Begun { pending, out } = begin(byte);
-    match out {
-        None => Next {
-            pending,
-            out: Given::One(REPLACEMENT),
-        },
-        Some(c) => Next {
-            pending,
-            out: Given::Replaced(c),
-        },
-    }
+    let (pending, begun) = begin(byte);
+    let given = begun.map_or(Given::One(REPLACEMENT), Given::Replaced);
+    (pending, given)
 }
 
 // Whether `byte` may be the first after the lead byte `lead`.
@@ -70,10 +47,10 @@ fn is_second(lead: u8, byte: u8) -> bool
     ensures { result ≡ lies (second lead) byte }
 {
     match lead {
-        0xE0 => byte >= 0xA0 && byte <= 0xBF,
-        0xED => byte >= 0x80 && byte <= 0x9F,
-        0xF0 => byte >= 0x90 && byte <= 0xBF,
-        0xF4 => byte >= 0x80 && byte <= 0x8F,
+        0xE0 => matches!(byte, 0xA0..=0xBF),
+        0xED => matches!(byte, 0x80..=0x9F),
+        0xF0 => matches!(byte, 0x90..=0xBF),
+        0xF4 => matches!(byte, 0x80..=0x8F),
         _ => is_following(byte),
     }
 }
@@ -81,52 +58,46 @@ fn is_second(lead: u8, byte: u8) -> bool
 fn is_following(byte: u8) -> bool
     ensures { result ≡ lies following byte }
 {
-    byte >= 0x80 && byte <= 0xBF
+    matches!(byte, 0x80..=0xBF)
 }
 
-fn read(pending: Pending, byte: u8) -> Next
-    ensures pending { reading_of result.pending ≡ (advance (reading_of pending) byte).state }
-    ensures out { chars_of result.out ≡ (advance (reading_of pending) byte).out }
-{
-    match pending {
-        Pending::Nothing => {
-            let Begun { pending, out } = begin(byte);
-            match out {
-                None => partial(pending),
-                Some(c) => Next {
-                    pending,
-                    out: Given::One(c),
-                },
+impl Pending {
+    // What a byte means after these bytes.
+    fn read(self, byte: u8) -> (Pending, Given)
+        ensures { given_turn result ≡ advance (reading_of self) byte }
+    {
+        match self {
+            Pending::Nothing => {
+                let (pending, begun) = begin(byte);
+                (pending, begun.map_or(Given::Nothing, Given::One))
             }
+            Pending::OneOfTwo(a) if is_second(a, byte) => whole(Character::Two([a, byte])),
+            Pending::OneOfThree(a) if is_second(a, byte) => partial(Pending::TwoOfThree(a, byte)),
+            Pending::TwoOfThree(a, b) if is_following(byte) => whole(Character::Three([
+                a, b, byte,
+            ])),
+            Pending::OneOfFour(a) if is_second(a, byte) => partial(Pending::TwoOfFour(a, byte)),
+            Pending::TwoOfFour(a, b) if is_following(byte) => {
+                partial(Pending::ThreeOfFour(a, b, byte))
+            }
+            Pending::ThreeOfFour(a, b, c) if is_following(byte) => {
+                whole(Character::Four([a, b, c, byte]))
+            }
+            _ => restart(byte),
         }
-        Pending::OneOfTwo(a) if is_second(a, byte) => whole(Character::Two(a, byte)),
-        Pending::OneOfThree(a) if is_second(a, byte) => partial(Pending::TwoOfThree(a, byte)),
-        Pending::TwoOfThree(a, b) if is_following(byte) => whole(Character::Three(a, b, byte)),
-        Pending::OneOfFour(a) if is_second(a, byte) => partial(Pending::TwoOfFour(a, byte)),
-        Pending::TwoOfFour(a, b) if is_following(byte) => partial(Pending::ThreeOfFour(a, b, byte)),
-        Pending::ThreeOfFour(a, b, c) if is_following(byte) => {
-            whole(Character::Four(a, b, c, byte))
-        }
-        _ => restart(byte),
     }
 }
 
-fn whole(c: Character) -> Next
-    ensures { (result.pending ≡ Pending.Nothing) × (result.out ≡ Given.One c) }
+fn whole(c: Character) -> (Pending, Given)
+    ensures { given_turn result ≡ record { state = between; out = bytes_of c ∷ [] } }
 {
-    Next {
-        pending: Pending::Nothing,
-        out: Given::One(c),
-    }
+    (Pending::Nothing, Given::One(c))
 }
 
-fn partial(pending: Pending) -> Next
-    ensures { (result.pending ≡ pending) × (result.out ≡ Given.Nothing) }
+fn partial(pending: Pending) -> (Pending, Given)
+    ensures { given_turn result ≡ record { state = reading_of pending; out = [] } }
 {
-    Next {
-        pending,
-        out: Given::Nothing,
-    }
+    (pending, Given::Nothing)
 }
 
 // A decoder of one stream.
@@ -153,10 +124,7 @@ impl Decoder {
     pub fn passes(&self, byte: u8) -> bool
         ensures { result ≡ passes (state_of self.now) byte }
     {
-        match self.pending {
-            Pending::Nothing => self.started && width(byte) == 1,
-            _ => false,
-        }
+        self.started && byte.is_ascii() && matches!(self.pending, Pending::Nothing)
     }
 
     // Reads the next byte of the stream, and gives the characters that are then known.
@@ -164,25 +132,13 @@ impl Decoder {
         ensures state { state_of self.new ≡ (step (state_of self.old) byte).state }
         ensures out { chars_of result ≡ (step (state_of self.old) byte).out }
     {
-        let Next { pending, out } = read(self.pending, byte);
+        let (pending, given) = self.pending.read(byte);
+        let is_first = !self.started;
         self.pending = pending;
-        if self.started {
-            return out;
-        }
-        match out {
-            Given::Nothing => Given::Nothing,
-            Given::One(c) => {
-                self.started = true;
-                if c.is_mark() {
-                    Given::Nothing
-                } else {
-                    Given::One(c)
-                }
-            }
-            Given::Replaced(c) => {
-                self.started = true;
-                Given::Replaced(c)
-            }
+        self.started |= given != Given::Nothing;
+        match given {
+            Given::One(c) if is_first && c.is_mark() => Given::Nothing,
+            given => given,
         }
     }
 }

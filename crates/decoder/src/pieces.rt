@@ -1,42 +1,30 @@
 // A stream in pieces, decoded into one text.
 ghost use Rattle.std.specs.Prelude.{◌≡◌, true, ◌++◌, is_ok, IfOk, if◌then◌else◌, IsUtf8};
 ghost use Rattle.std.specs.List.{flat_map};
-ghost use Rattle.machine.specs.Run.{run};
+ghost use Rattle.machine.specs.Run.{also, run};
 ghost use Rattle.decoder.specs.Standard.{text, decoded};
 ghost use Rattle.decoder.specs.Machine.{reads};
 ghost use Rattle.decoder.specs.Code.{bytes_of, chars_of, state_of};
 
-use crate::character::{Character, Given, REPLACEMENT};
+use crate::character::{Given, REPLACEMENT};
 use crate::decoder::Decoder;
 use std::alloc::{AllocError, Global};
-
-fn add_character(out: &mut Vec<u8>, c: Character) -> Result<(), AllocError>
-    ensures { out.new.items ≡ (if is_ok result then out.old.items ++ bytes_of c else out.old.items) }
-{
-    match c {
-        Character::One(a) => out.extend_from_slice(&[a]),
-        Character::Two(a, b) => out.extend_from_slice(&[a, b]),
-        Character::Three(a, b, c) => out.extend_from_slice(&[a, b, c]),
-        Character::Four(a, b, c, d) => out.extend_from_slice(&[a, b, c, d]),
-    }
-}
 
 fn add_given(out: &mut Vec<u8>, given: Given) -> Result<(), AllocError>
     ensures { is_ok result ≡ true → out.new.items ≡ out.old.items ++ text (chars_of given) }
 {
     match given {
         Given::Nothing => Ok(()),
-        Given::One(c) => add_character(out, c),
+        Given::One(c) => out.extend_from_slice(c.as_bytes()),
         Given::Replaced(c) => {
-            add_character(out, REPLACEMENT)?;
-            add_character(out, c)
+            out.extend_from_slice(REPLACEMENT.as_bytes())?;
+            out.extend_from_slice(c.as_bytes())
         }
     }
 }
 
 fn add_piece(decoder: &mut Decoder, piece: &[u8], out: &mut Vec<u8>) -> Result<(), AllocError>
-    ensures state { is_ok result ≡ true → state_of decoder.new ≡ (run reads (state_of decoder.old) piece.now).state }
-    ensures out { is_ok result ≡ true → out.new.items ≡ out.old.items ++ (run reads (state_of decoder.old) piece.now).out }
+    ensures { is_ok result ≡ true → record { state = state_of decoder.new; out = out.new.items } ≡ also out.old.items (run reads (state_of decoder.old) piece.now) }
 {
     for byte in piece {
         add_given(out, decoder.push(*byte))?;

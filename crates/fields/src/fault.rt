@@ -5,7 +5,7 @@ ghost use Rattle.fields.specs.declared.fault.FieldFault.TheVariants.{Sink};
 use sink::SinkFault;
 
 // A value over its limit, or the sink's refusal.
-#[derive(Clone, Copy)]
+#[derive(Clone, Copy, Debug, PartialEq)]
 pub enum FieldFault {
     LongId,
     LongType,

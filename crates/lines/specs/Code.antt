@@ -1,11 +1,12 @@
 -- What the program's values stand for.
-use Rattle.std.specs.Prelude.{ℕ, zero, suc, Bool, true, false, Some, None, Ok, Err, Option, Result}
+use Rattle.std.specs.Prelude.{ℕ, Bool, true, false, cond, Some, None, Ok, Err, Option, Result}
 use Rattle.buffer.specs.Bytes.{bytes_of}
 use Rattle.decoder.specs.Code.{state_of}
 use Rattle.fields.specs.Cause as cause
 use Rattle.fields.specs.Cause.{Cause, line_too_long}
 use Rattle.fields.specs.Code.{cause_of, held_of}
-use Rattle.fields.specs.Hand.{Answer, quiet, kept, faulted}
+use Rattle.fields.specs.Block.{Outcome, nothing, over}
+use Rattle.fields.specs.Hand.{Answer, quiet, kept, faulted, Handed}
 use Rattle.lines.specs.declared.fault.Fault.{Fault as Stop}
 use Rattle.lines.specs.declared.fault.Layer.{Layer}
 use Rattle.lines.specs.declared.fault.Layer.TheVariants as layer
@@ -13,8 +14,8 @@ use Rattle.lines.specs.declared.fault.LineFault.{LineFault}
 use Rattle.lines.specs.declared.fault.LineFault.TheVariants.{Long, Field}
 use Rattle.lines.specs.declared.text.Lines.{Lines}
 use Rattle.lines.specs.declared.reader.Reader.{Reader as Board}
-use Rattle.lines.specs.Text.{Text}
-use Rattle.lines.specs.Reader.{Fault, Reader, reading, stopped}
+use Rattle.lines.specs.Text.{Text, Seen, Ran}
+use Rattle.lines.specs.Reader.{Fault, Reader, reading, stopped, Pushed}
 
 -- Each fault with its number and layer.
 abbrev pub line_cause : LineFault → Cause
@@ -39,26 +40,19 @@ line_answer (Ok true) = kept
 line_answer (Ok false) = quiet
 line_answer (Err f) = faulted (line_cause f)
 
--- .. of text, which keeps no event
-abbrev pub text_answer : Result (Unit {0}) LineFault → Answer Cause
-text_answer (Ok u) = quiet
-text_answer (Err f) = faulted (line_cause f)
+-- What text comes to that ends no line.
+abbrev pub text_outcome : Result (Unit {0}) LineFault → Outcome
+text_outcome (Ok u) = nothing
+text_outcome (Err f) = over (line_cause f)
 
--- A byte's answer, and what it is for a number of events kept and a fault.
-abbrev pub byte_answer : Result Bool Stop → Answer Fault
-byte_answer (Ok true) = kept
-byte_answer (Ok false) = quiet
-byte_answer (Err f) = faulted (fault_said f)
+-- How many events were kept, at most one, and why reading stopped, if it did.
+abbrev pub kept_of : {F : Type 0} → Result Bool F → ℕ
+kept_of (Ok k) = cond k 1 0
+kept_of (Err f) = 0
 
-abbrev pub answered : {F : Type 0} → ℕ → Option F → Answer F
-answered n (Some f) = faulted f
-answered zero None = quiet
-answered (suc n) None = kept
-
--- A byte keeps at most one event, and none where it meets a fault.
-abbrev pub most : {F : Type 0} → Option F → ℕ
-most None = 1
-most (Some f) = 0
+abbrev pub stop_of : {F C : Type 0} → (F → C) → Result Bool F → Option C
+stop_of said (Ok k) = None
+stop_of said (Err f) = Some (said f)
 
 abbrev pub text_of : Lines → Text
 text_of l = record { line = record { after_cr = l.after_cr; built = bytes_of l.line }; number = l.number; held = held_of l.fields }
@@ -69,3 +63,16 @@ standing r (Some f) = stopped (held_of r.lines.fields).last_id (held_of r.lines.
 
 abbrev pub reader_of : Board → Reader
 reader_of r = standing r r.fault
+
+-- What a call came to, with the sink as it is then.
+abbrev pub appended : Lines → Result (Unit {0}) LineFault → Seen
+appended l r = record { text = text_of l; outcome = text_outcome r }
+
+abbrev pub handed : {X : Type 0} → Lines → X → Result Bool LineFault → Handed Text X
+handed l x r = record { held = text_of l; sink = x; answer = line_answer r }
+
+abbrev pub ran : {X : Type 0} → Lines → X → Result Bool LineFault → Ran X
+ran l x r = record { text = text_of l; sink = x; kept = kept_of r; stop = stop_of line_cause r }
+
+abbrev pub pushed : {X : Type 0} → Board → X → Result Bool Stop → Pushed X
+pushed r x a = record { reader = reader_of r; sink = x; kept = kept_of a }

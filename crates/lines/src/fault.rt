@@ -1,14 +1,23 @@
 // Why and where reading stops.
 ghost use Rattle.std.specs.Prelude.{◌≡◌};
-ghost use Rattle.lines.specs.declared.fault.LineFault.TheVariants.{Field};
+ghost use Rattle.lines.specs.declared.fault.LineFault.TheVariants.{Long, Field};
 
+use buffer::Full;
 use fields::FieldFault;
 
 // A line over 1,024 bytes, or what a field or the sink refused.
-#[derive(Clone, Copy)]
+#[derive(Clone, Copy, Debug, PartialEq)]
 pub enum LineFault {
     Long,
     Field(FieldFault),
+}
+
+impl From<Full> for LineFault {
+    ghost from_gives = { λ _ r. r ≡ Long };
+
+    fn from(_full: Full) -> LineFault {
+        LineFault::Long
+    }
 }
 
 impl From<FieldFault> for LineFault {
@@ -20,7 +29,7 @@ impl From<FieldFault> for LineFault {
 }
 
 // The layer that a fault comes from.
-#[derive(Clone, Copy)]
+#[derive(Clone, Copy, Debug, PartialEq)]
 pub enum Layer {
     Line,
     Field,
@@ -28,7 +37,7 @@ pub enum Layer {
 }
 
 // A fault with its line, from 1, and its byte of the stream, from 0.
-#[derive(Clone, Copy)]
+#[derive(Clone, Copy, Debug, PartialEq)]
 pub struct Fault {
     pub cause: LineFault,
     pub line: u32,

@@ -13,7 +13,7 @@ pub struct Reader {
 }
 
 // What a piece of a stream came to: the events kept, and the fault at which reading has stopped.
-#[derive(Clone, Copy)]
+#[derive(Clone, Copy, Debug, PartialEq)]
 pub struct Progress {
     pub kept: usize,
     pub fault: Option<Fault>,

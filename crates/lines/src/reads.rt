@@ -1,10 +1,10 @@
 // Reading a stream, byte by byte and piece by piece.
-ghost use Rattle.std.specs.Prelude.{◌≡◌, ◌≤◌};
+ghost use Rattle.std.specs.Prelude.{◌≡◌};
 ghost use Rattle.decoder.specs.Machine.{step};
 ghost use Rattle.decoder.specs.Code.{state_of};
 ghost use Rattle.lines.specs.Text.{hand_chars};
 ghost use Rattle.lines.specs.Reader.{fresh, restarted, last_id_of, retry_of, fault_of, push, reads};
-ghost use Rattle.lines.specs.Code.{text_of, reader_of, line_answer, faults_said, byte_answer, answered, most};
+ghost use Rattle.lines.specs.Code.{text_of, reader_of, fault_said, faults_said, stop_of, ran, pushed};
 
 use crate::fault::{Fault, LineFault};
 use crate::reader::{Progress, Reader};
@@ -58,14 +58,11 @@ impl Reader {
 
     // Reads one byte, and answers whether an event was kept. Once stopped it reads nothing, and answers the fault again.
     pub fn push<S: Sink>(&mut self, byte: u8, sink: &mut S) -> Result<bool, Fault>
-        ensures reader { reader_of self.new ≡ (push S.Sink.refusal S.Sink.after (reader_of self.old) (S.Sink.state sink.old) byte).reader }
-        ensures sink { S.Sink.state sink.new ≡ (push S.Sink.refusal S.Sink.after (reader_of self.old) (S.Sink.state sink.old) byte).sink }
-        ensures answer { byte_answer result ≡ answered (push S.Sink.refusal S.Sink.after (reader_of self.old) (S.Sink.state sink.old) byte).kept (fault_of (push S.Sink.refusal S.Sink.after (reader_of self.old) (S.Sink.state sink.old) byte).reader) }
-        ensures few { (push S.Sink.refusal S.Sink.after (reader_of self.old) (S.Sink.state sink.old) byte).kept ≤ most (fault_of (push S.Sink.refusal S.Sink.after (reader_of self.old) (S.Sink.state sink.old) byte).reader) }
+        ensures came { pushed self.new (S.Sink.state sink.new) result ≡ push S.Sink.refusal S.Sink.after (reader_of self.old) (S.Sink.state sink.old) byte }
+        ensures fault { stop_of fault_said result ≡ fault_of (reader_of self.new) }
     {
-        match self.fault {
-            Some(fault) => return Err(fault),
-            None => {}
+        if let Some(fault) = self.fault {
+            return Err(fault);
         }
         match take_in(&mut self.decoder, &mut self.lines, byte, sink) {
             Ok(kept) => {
@@ -93,19 +90,10 @@ impl Reader {
     {
         let mut kept = 0;
         for byte in piece {
-            match self.push(*byte, sink) {
-                Ok(event) => {
-                    if event {
-                        kept += 1;
-                    }
-                }
-                Err(fault) => {
-                    return Progress {
-                        kept,
-                        fault: Some(fault),
-                    };
-                }
-            }
+            let Ok(event) = self.push(*byte, sink) else {
+                break;
+            };
+            kept += usize::from(event);
         }
         Progress {
             kept,
@@ -114,7 +102,8 @@ impl Reader {
     }
 }
 
-// What a byte does to the text. One that passes as it stands is not pushed, which spares most of the work.
+// What a byte does to the text. One that passes as it stands is not pushed, which spares most of the work. It takes the two
+// fields and no reader, since a contract on the reader would also have to say that byte and fault stay.
 fn take_in<S: Sink>(
     decoder: &mut Decoder,
     lines: &mut Lines,
@@ -122,10 +111,7 @@ fn take_in<S: Sink>(
     sink: &mut S,
 ) -> Result<bool, LineFault>
     ensures decoder { state_of decoder.new ≡ (step (state_of decoder.old) byte).state }
-    ensures text { text_of lines.new ≡ (hand_chars S.Sink.refusal S.Sink.after (text_of lines.old) (S.Sink.state sink.old) (step (state_of decoder.old) byte).out).text }
-    ensures sink { S.Sink.state sink.new ≡ (hand_chars S.Sink.refusal S.Sink.after (text_of lines.old) (S.Sink.state sink.old) (step (state_of decoder.old) byte).out).sink }
-    ensures answer { line_answer result ≡ answered (hand_chars S.Sink.refusal S.Sink.after (text_of lines.old) (S.Sink.state sink.old) (step (state_of decoder.old) byte).out).kept (hand_chars S.Sink.refusal S.Sink.after (text_of lines.old) (S.Sink.state sink.old) (step (state_of decoder.old) byte).out).stop }
-    ensures few { (hand_chars S.Sink.refusal S.Sink.after (text_of lines.old) (S.Sink.state sink.old) (step (state_of decoder.old) byte).out).kept ≤ most (hand_chars S.Sink.refusal S.Sink.after (text_of lines.old) (S.Sink.state sink.old) (step (state_of decoder.old) byte).out).stop }
+    ensures lines { ran lines.new (S.Sink.state sink.new) result ≡ hand_chars S.Sink.refusal S.Sink.after (text_of lines.old) (S.Sink.state sink.old) (step (state_of decoder.old) byte).out }
 {
     if decoder.passes(byte) {
         return lines.byte(byte, sink);

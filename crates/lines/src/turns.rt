@@ -1,16 +1,15 @@
 // What a character does to the line that is being built.
-ghost use Rattle.std.specs.Prelude.{◌≡◌, ◌≤◌, [], ◌∷◌};
+ghost use Rattle.std.specs.Prelude.{◌≡◌, [], ◌∷◌};
 ghost use Rattle.decoder.specs.Code.{bytes_of, chars_of};
 ghost use Rattle.fields.specs.Block.{unread};
-ghost use Rattle.fields.specs.Code.{field_told};
 ghost use Rattle.lines.specs.Line.{ended, longer};
 ghost use Rattle.lines.specs.Text.{begun, turned, hand_turn, hand_char, hand_chars};
-ghost use Rattle.lines.specs.Code.{text_of, line_answer, text_answer, answered, most};
+ghost use Rattle.lines.specs.Code.{text_of, appended, handed, ran};
 
 use crate::fault::LineFault;
 use crate::text::Lines;
-use buffer::{Buffer, Full};
-use decoder::{Character, Given};
+use buffer::Buffer;
+use decoder::{Character, Given, REPLACEMENT};
 use fields::Fields;
 use sink::Sink;
 
@@ -37,38 +36,17 @@ impl Lines {
     }
 
     // Text that ends no line.
-    pub(crate) fn append(&mut self, bytes: &[u8]) -> Result<(), LineFault>
-        ensures text { text_of self.new ≡ (turned (text_of self.old) (longer (text_of self.old).line bytes.now)).text }
-        ensures answer { text_answer result ≡ field_told (turned (text_of self.old) (longer (text_of self.old).line bytes.now)).outcome }
+    fn append(&mut self, bytes: &[u8]) -> Result<(), LineFault>
+        ensures { appended self.new result ≡ turned (text_of self.old) (longer (text_of self.old).line bytes.now) }
     {
-        match self.line.append(bytes) {
-            Ok(()) => {
-                self.after_cr = false;
-                Ok(())
-            }
-            Err(Full) => Err(LineFault::Long),
-        }
-    }
-
-    // The same for one byte.
-    fn append_one(&mut self, byte: u8) -> Result<(), LineFault>
-        ensures text { text_of self.new ≡ (turned (text_of self.old) (longer (text_of self.old).line (byte ∷ []))).text }
-        ensures answer { text_answer result ≡ field_told (turned (text_of self.old) (longer (text_of self.old).line (byte ∷ []))).outcome }
-    {
-        match self.line.push(byte) {
-            Ok(()) => {
-                self.after_cr = false;
-                Ok(())
-            }
-            Err(Full) => Err(LineFault::Long),
-        }
+        self.line.append(bytes)?;
+        self.after_cr = false;
+        Ok(())
     }
 
     // The end of a line, by a CR or not.
     fn end<S: Sink>(&mut self, cr: bool, sink: &mut S) -> Result<bool, LineFault>
-        ensures text { text_of self.new ≡ (hand_turn S.Sink.refusal S.Sink.after (text_of self.old) (S.Sink.state sink.old) (ended (record { after_cr = cr; built = [] }) (text_of self.old).line.built)).held }
-        ensures sink { S.Sink.state sink.new ≡ (hand_turn S.Sink.refusal S.Sink.after (text_of self.old) (S.Sink.state sink.old) (ended (record { after_cr = cr; built = [] }) (text_of self.old).line.built)).sink }
-        ensures answer { line_answer result ≡ (hand_turn S.Sink.refusal S.Sink.after (text_of self.old) (S.Sink.state sink.old) (ended (record { after_cr = cr; built = [] }) (text_of self.old).line.built)).answer }
+        ensures { handed self.new (S.Sink.state sink.new) result ≡ hand_turn S.Sink.refusal S.Sink.after (text_of self.old) (S.Sink.state sink.old) (ended (record { after_cr = cr; built = [] }) (text_of self.old).line.built) }
     {
         let kept = self.fields.line(self.line.as_slice(), sink)?;
         self.line.clear();
@@ -79,9 +57,7 @@ impl Lines {
 
     // A character of one byte. Answers whether it kept an event.
     pub(crate) fn byte<S: Sink>(&mut self, byte: u8, sink: &mut S) -> Result<bool, LineFault>
-        ensures text { text_of self.new ≡ (hand_char S.Sink.refusal S.Sink.after (text_of self.old) (S.Sink.state sink.old) (byte ∷ [])).held }
-        ensures sink { S.Sink.state sink.new ≡ (hand_char S.Sink.refusal S.Sink.after (text_of self.old) (S.Sink.state sink.old) (byte ∷ [])).sink }
-        ensures answer { line_answer result ≡ (hand_char S.Sink.refusal S.Sink.after (text_of self.old) (S.Sink.state sink.old) (byte ∷ [])).answer }
+        ensures { handed self.new (S.Sink.state sink.new) result ≡ hand_char S.Sink.refusal S.Sink.after (text_of self.old) (S.Sink.state sink.old) (byte ∷ []) }
     {
         match byte {
             b'\n' if self.after_cr => {
@@ -91,7 +67,7 @@ impl Lines {
             b'\n' => self.end(false, sink),
             b'\r' => self.end(true, sink),
             _ => {
-                self.append_one(byte)?;
+                self.append(&[byte])?;
                 Ok(false)
             }
         }
@@ -99,31 +75,26 @@ impl Lines {
 
     // A character of the text. Answers whether it kept an event.
     fn character<S: Sink>(&mut self, c: Character, sink: &mut S) -> Result<bool, LineFault>
-        ensures text { text_of self.new ≡ (hand_char S.Sink.refusal S.Sink.after (text_of self.old) (S.Sink.state sink.old) (bytes_of c)).held }
-        ensures sink { S.Sink.state sink.new ≡ (hand_char S.Sink.refusal S.Sink.after (text_of self.old) (S.Sink.state sink.old) (bytes_of c)).sink }
-        ensures answer { line_answer result ≡ (hand_char S.Sink.refusal S.Sink.after (text_of self.old) (S.Sink.state sink.old) (bytes_of c)).answer }
+        ensures { handed self.new (S.Sink.state sink.new) result ≡ hand_char S.Sink.refusal S.Sink.after (text_of self.old) (S.Sink.state sink.old) (bytes_of c) }
     {
-        match c {
-            Character::One(a) => return self.byte(a, sink),
-            Character::Two(a, b) => self.append(&[a, b])?,
-            Character::Three(a, b, c) => self.append(&[a, b, c])?,
-            Character::Four(a, b, c, d) => self.append(&[a, b, c, d])?,
+        match c.as_bytes() {
+            [byte] => self.byte(*byte, sink),
+            bytes => {
+                self.append(bytes)?;
+                Ok(false)
+            }
         }
-        Ok(false)
     }
 
     // The characters that a byte gave. Answers whether they kept an event.
     pub(crate) fn given<S: Sink>(&mut self, given: Given, sink: &mut S) -> Result<bool, LineFault>
-        ensures text { text_of self.new ≡ (hand_chars S.Sink.refusal S.Sink.after (text_of self.old) (S.Sink.state sink.old) (chars_of given)).text }
-        ensures sink { S.Sink.state sink.new ≡ (hand_chars S.Sink.refusal S.Sink.after (text_of self.old) (S.Sink.state sink.old) (chars_of given)).sink }
-        ensures answer { line_answer result ≡ answered (hand_chars S.Sink.refusal S.Sink.after (text_of self.old) (S.Sink.state sink.old) (chars_of given)).kept (hand_chars S.Sink.refusal S.Sink.after (text_of self.old) (S.Sink.state sink.old) (chars_of given)).stop }
-        ensures few { (hand_chars S.Sink.refusal S.Sink.after (text_of self.old) (S.Sink.state sink.old) (chars_of given)).kept ≤ most (hand_chars S.Sink.refusal S.Sink.after (text_of self.old) (S.Sink.state sink.old) (chars_of given)).stop }
+        ensures { ran self.new (S.Sink.state sink.new) result ≡ hand_chars S.Sink.refusal S.Sink.after (text_of self.old) (S.Sink.state sink.old) (chars_of given) }
     {
         match given {
             Given::Nothing => Ok(false),
             Given::One(c) => self.character(c, sink),
             Given::Replaced(c) => {
-                self.append(&[0xEF, 0xBF, 0xBD])?;
+                self.append(REPLACEMENT.as_bytes())?;
                 self.character(c, sink)
             }
         }

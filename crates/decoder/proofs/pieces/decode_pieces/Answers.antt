@@ -1,19 +1,16 @@
-use Rattle.std.proofs.Common.{IsUtf8, sym, refl, ◌∙◌, subst}
+use Rattle.std.proofs.Common.{IsUtf8, sym, refl, ap, ◌∙◌, subst}
 use Rattle.std.specs.List.{flat_map}
 use Rattle.std.proofs.lemmas.List.{at_drop_more, at_drop_all}
-use Rattle.machine.proofs.Laws.{Leads, begins, run_more, ends}
+use Rattle.machine.proofs.Laws.{Leads, run_more, ends}
 use Rattle.decoder.specs.Machine.{reads}
 use Rattle.decoder.proofs.Whole.{text_so_far}
 use Rattle.decoder.proofs.Valid.{decoded_text_is_well_formed}
 use Rattle.decoder.proofs.pieces.decode_pieces.Goals as goal
 
-pub loop-piece-init : goal.loop-piece-init
-loop-piece-init c = begins reads _ _ _ _ _ c.new-decoder.ensures c.new-out.ensures.items
-
 pub loop-piece-preserved : goal.loop-piece-preserved
 loop-piece-preserved c =
-    let told = c.in_ok-add_piece.ensures in
-    run_more _ _ _ _ (told.state refl) (told.out refl)
+    let told = c.in_ok-add_piece.ensures refl in
+    run_more _ _ _ _ (ap (λ t. t.state) told) (ap (λ t. t.out) told)
     (subst (Leads reads _ _ _ _) (at_drop_more (flat_map (λ p. p.now)) _ _ _ c.loop-piece-test.true) c.loop-piece.invariant)
 
 pub returns : goal.returns

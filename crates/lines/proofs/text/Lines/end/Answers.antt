@@ -1,21 +1,23 @@
-use Rattle.std.proofs.Common.{ap, ◌∙◌}
+use Rattle.std.proofs.Common.{[], ap, ◌∙◌, Err}
 use Rattle.std.proofs.lemmas.Result.{err_from_is_err_and}
 use Rattle.fields.specs.Code.{cause_of, held_of}
-use Rattle.lines.specs.Code.{text_of, line_answer}
-use Rattle.lines.proofs.Ends.{ends_at_fault, ends_well}
+use Rattle.lines.specs.declared.text.Lines.{Lines}
+use Rattle.lines.specs.Line.{Line, ended}
+use Rattle.lines.specs.Text.{hand_turn}
+use Rattle.lines.specs.Code.{text_of, handed}
+use Rattle.lines.proofs.Ends.{ends_at_fault}
 use Rattle.lines.proofs.text.Lines.end.Goals as goal
 
 pub returns-in_err-kept : goal.returns-in_err-kept
 returns-in_err-kept g c =
     let k = g.S.Sink in
+    let t = text_of c.args.self.now in
+    let x = k.state c.args.sink.now in
+    let y = k.state c.line.new.sink in
+    let l : Line = record { after_cr = c.args.cr; built = [] } in
+    let self : Lines = record { line = c.args.self.now.line; after_cr = c.args.self.now.after_cr; number = c.args.self.now.number; fields = c.line.new.self } in
     let told = c.in_err-kept.ensures in
     let p = err_from_is_err_and c.from_residual.result c.from_residual.ensures.1 in
-    let done = ends_at_fault k.refusal k.after (text_of c.args.self.now) (k.state c.args.sink.now) _ _ c.as_slice.result.now (held_of c.line.new.self) (k.state c.line.new.sink) (cause_of c.in_err-kept.field-0.0) c.as_slice.ensures told.held told.sink told.answer in
-    record { text = done.text; sink = done.sink; answer = ap line_answer p.1 ∙ ap (λ f. line_answer (Rattle.std.specs.declared.result.Result.TheVariants.Err f)) p.2 ∙ done.answer }
-
-pub returns : goal.returns
-returns g c =
-    let k = g.S.Sink in
-    let told = c.in_ok-kept.ensures in
-    let done = ends_well k.refusal k.after (text_of c.args.self.now) (k.state c.args.sink.now) c.args.cr _ _ c.as_slice.result.now _ (held_of c.line.new.self) (k.state c.line.new.sink) c.in_ok-kept.kept c.clear.ensures c.saturating_add-self.ensures c.as_slice.ensures told.held told.sink told.answer in
-    record { text = done.text; sink = done.sink; answer = done.answer }
+    ap (handed self y) p.1 ∙ ap (λ e. handed self y (Err e)) p.2
+    ∙ ends_at_fault k.refusal k.after t x l c.as_slice.result.now (held_of c.line.new.self) y (cause_of c.in_err-kept.field-0.0) told.held told.sink told.answer
+    ∙ ap (λ s. hand_turn k.refusal k.after t x (ended l s)) c.as_slice.ensures
