@@ -1,4 +1,3 @@
 pub mod Parts
 pub mod Steps
-pub mod Shorter
 pub mod Meanings

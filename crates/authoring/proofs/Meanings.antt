@@ -14,7 +14,7 @@ use Rattle.wire.specs.Sent.{Sent, Lawful, AllLawful, stream}
 use Rattle.wire.specs.Laws.{Means}
 use Rattle.wire.proofs.Means.{a_stream_means_what_was_sent}
 use Rattle.writer.specs.Written.{written}
-use Rattle.authoring.specs.declared.stop.Cause.TheVariants.{Refused}
+use Rattle.script.specs.declared.event.Cause.TheVariants.{Refused}
 use Rattle.authoring.specs.Stream.{cause_of, bytes_of, onward, outcome}
 use Rattle.authoring.specs.Laws.{sent_for, unless_stopped, sent_by}
 

@@ -56,5 +56,5 @@ module _ (greatest number : ℕ) (w before stream out out' : List ℕ) (from cou
         begun = inr p.yes;
       }
 
-  pub all : (stream' : List ℕ) → Part → count < 4096 → stream' ≡ stream ++ take count out' → (true ≡ has_text greatest number) × (stream' ≡ before ++ w)
-  all stream' p h e = (sym p.yes, joined_on stream' p e ∙ ap (λ (x : List ℕ). before ++ x) (take_all (from + 4096) w (omega (arith, p.fill, so_far.within))))
+  pub all : (stream' : List ℕ) → Part → count < 4096 → stream' ≡ stream ++ take count out' → stream' ≡ before ++ w
+  all stream' p h e = joined_on stream' p e ∙ ap (λ (x : List ℕ). before ++ x) (take_all (from + 4096) w (omega (arith, p.fill, so_far.within)))

@@ -6,7 +6,7 @@ use Rattle.script.specs.Events.{Said, event, refused, unreadable, event_said}
 use Rattle.wire.specs.Sent as sent
 use Rattle.wire.specs.Sent.{Sent}
 use Rattle.wire.specs.Laws.{Means}
-use Rattle.authoring.specs.declared.stop.Cause.{Cause}
+use Rattle.script.specs.declared.event.Cause.{Cause}
 use Rattle.authoring.specs.Stream.{cause_of, outcome}
 
 -- what is sent for a line with the number n

@@ -10,8 +10,8 @@ use Rattle.events.specs.declared.refusal.Refusal.TheVariants.{TypeLength, Number
 use Rattle.numbering.specs.Meaning.{has_text}
 use Rattle.script.specs.Events.{Said, event, refused, unreadable, event_said}
 use Rattle.writer.specs.Written.{written}
-use Rattle.authoring.specs.declared.stop.Cause.{Cause}
-use Rattle.authoring.specs.declared.stop.Cause.TheVariants.{Refused, Unreadable}
+use Rattle.script.specs.declared.event.Cause.{Cause}
+use Rattle.script.specs.declared.event.Cause.TheVariants.{Refused, Unreadable}
 use Rattle.authoring.specs.declared.stop.Stop.{Stop}
 
 -- why a line stops the writing, if it does
@@ -56,8 +56,8 @@ example_no_number : outcome 0 digit Lf 1 (codes "\"a\" \"b\"" ∷ []) ≡ record
 unfolding flaw is_text chars encode
 example_no_number = refl
 
--- what writing one line leaves, where it did not run out of memory
-pub record Wrote (greatest : ℕ) (text : ℕ → List ℕ) (e : LineEnd) (n : ℕ) (line before after : List ℕ) (stop : Option Cause) : Type 0 where
-  pub why : stop ≡ cause_of greatest n (event_said line)
-  pub stream : after ≡ before ++ bytes_of greatest text e n (event_said line)
+-- what writing what a line says leaves, where it did not run out of memory
+pub record Wrote (greatest : ℕ) (text : ℕ → List ℕ) (e : LineEnd) (n : ℕ) (said : Said) (before after : List ℕ) (stop : Option Cause) : Type 0 where
+  pub why : stop ≡ cause_of greatest n said
+  pub stream : after ≡ before ++ bytes_of greatest text e n said
   pub small : stop ≡ None → n < 2 ^ 32

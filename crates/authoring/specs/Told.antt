@@ -3,8 +3,8 @@ use Rattle.std.specs.Prelude.{◌≡◌, ℕ, List, ◌++◌, codes, decimal, re
 use Rattle.std.specs.Fmt.{digits}
 use Rattle.events.specs.Refusal.{number}
 use Rattle.events.specs.declared.refusal.Refusal.TheVariants.{DataLength}
-use Rattle.authoring.specs.declared.stop.Cause.{Cause}
-use Rattle.authoring.specs.declared.stop.Cause.TheVariants.{Refused, Unreadable}
+use Rattle.script.specs.declared.event.Cause.{Cause}
+use Rattle.script.specs.declared.event.Cause.TheVariants.{Refused, Unreadable}
 use Rattle.authoring.specs.declared.stop.Stop.{Stop}
 
 abbrev pub told : Cause → ℕ → List ℕ

@@ -7,5 +7,6 @@ mod stop;
 mod writing;
 
 pub use laws::what_lines_say_is_read;
-pub use stop::{Cause, Stop};
+pub use script::Cause;
+pub use stop::Stop;
 pub use writing::write_lines;

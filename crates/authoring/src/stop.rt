@@ -2,23 +2,14 @@
 ghost use Rattle.std.specs.Prelude.{Some};
 ghost use Rattle.authoring.specs.Told.{stop_told};
 
-use events::Refusal;
+use script::Cause;
 use std::fmt;
 
 // Where the writing stopped before the end of the text, lines counted from 1, and why.
-#[derive(Clone, Copy)]
+#[derive(Clone, Copy, Debug, PartialEq)]
 pub struct Stop {
     pub line: u64,
     pub cause: Cause,
-}
-
-// Why a line stops the writing.
-#[derive(Clone, Copy)]
-pub enum Cause {
-    // its event is refused, or has no number
-    Refused(Refusal),
-    // it is not a type and data between quotes
-    Unreadable,
 }
 
 impl fmt::Display for Stop {

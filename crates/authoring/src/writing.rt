@@ -1,15 +1,15 @@
 // The events that the lines of a text say, written one after the other.
-ghost use Rattle.std.specs.Prelude.{◌≡◌, [], ◌++◌, IfOk, if◌then◌else◌};
+ghost use Rattle.std.specs.Prelude.{◌≡◌, ◌++◌, IfOk};
+ghost use Rattle.std.specs.Result.{result_err};
 ghost use Rattle.events.specs.Entry.{entry_of};
+ghost use Rattle.script.specs.Events.{event as says, event_said};
 ghost use Rattle.script.specs.Lines.{all_lines};
-ghost use Rattle.writer.specs.Written.{written};
-ghost use Rattle.numbering.specs.Meaning.{has_text};
 ghost use Rattle.authoring.specs.Stream.{outcome, Wrote};
 
-use crate::stop::{Cause, Stop};
+use crate::stop::Stop;
 use events::{Entry, LineEnd, Refusal};
 use numbering::Numbering;
-use script::{EventLine, cut_line, event_line};
+use script::{Cause, Lines, event_line};
 use std::alloc::{AllocError, Global};
 use wire::write_numbered;
 
@@ -27,65 +27,70 @@ pub fn write_lines<N: Numbering>(
 ) -> Result<Option<Stop>, AllocError>
     ensures { IfOk result (λ stop. (stop ≡ (outcome N.Numbering.GREATEST N.Numbering.text end 1 (all_lines text.now)).stop) × (stream.new.items ≡ stream.old.items ++ (outcome N.Numbering.GREATEST N.Numbering.text end 1 (all_lines text.now)).bytes)) }
 {
-    let mut rest = text;
-    let mut line = 1u64;
-    while !rest.is_empty() {
-        let (first, behind) = cut_line(rest);
-        if let Some(cause) = write_line(heap, numbering, end, line, first, stream)? {
+    let form = Form { numbering, end };
+    for (before, text) in Lines::new(text).enumerate() {
+        let line = before as u64 + 1;
+        if let Err(cause) = form.write_line(heap, line, text, stream)? {
             return Ok(Some(Stop { line, cause }));
         }
-        line += 1;
-        rest = behind;
     }
     Ok(None)
 }
 
-// Writes the event that a line says, under a number; answers why that stops here, if it does.
-fn write_line<N: Numbering>(
-    heap: Global,
-    numbering: &N,
+// How events are written.
+#[derive(Drop)]
+struct Form<'a, N: Numbering> {
+    numbering: &'a N,
     end: LineEnd,
-    number: u64,
-    line: &[u8],
-    stream: &mut Vec<u8>,
-) -> Result<Option<Cause>, AllocError>
-    ensures { IfOk result (λ o. Wrote N.Numbering.GREATEST N.Numbering.text end number line.now stream.old.items stream.new.items o) }
-{
-    match event_line(heap, line)? {
-        EventLine::Event(event) => {
-            if number <= u64::from(numbering.last_number())
-                && append_event(numbering, end, number as u32, &event, stream)?
-            {
-                Ok(None)
-            } else {
-                Ok(Some(Cause::Refused(Refusal::NumbersUsed)))
-            }
-        }
-        EventLine::Refused(refusal) => Ok(Some(Cause::Refused(refusal))),
-        EventLine::Unreadable => Ok(Some(Cause::Unreadable)),
-    }
 }
 
-// Writes an event part by part, and answers whether its number has a text; nothing is written where it has none.
-fn append_event<N: Numbering>(
-    numbering: &N,
-    end: LineEnd,
-    number: u32,
-    event: &Entry,
-    stream: &mut Vec<u8>,
-) -> Result<bool, AllocError>
-    ensures { IfOk result (λ b. (b ≡ has_text N.Numbering.GREATEST number) × (stream.new.items ≡ stream.old.items ++ (if b then written end (N.Numbering.text number) (entry_of event.now) else []))) }
-{
-    let mut part = [0u8; PART];
-    let mut from = 0;
-    loop {
-        let Some(count) = write_numbered(numbering, number, event, end, from, &mut part) else {
-            return Ok(false);
-        };
-        stream.extend_from_slice(&part[..count])?;
-        if count < PART {
-            return Ok(true);
+impl<'a, N: Numbering> Form<'a, N> {
+    // Writes the event that a line says, under a number, unless something stops that.
+    fn write_line(
+        &self,
+        heap: Global,
+        number: u64,
+        line: &[u8],
+        stream: &mut Vec<u8>,
+    ) -> Result<Result<(), Cause>, AllocError>
+        ensures { IfOk result (λ o. Wrote N.Numbering.GREATEST N.Numbering.text self.now.end number (event_said line.now) stream.old.items stream.new.items (result_err o)) }
+    {
+        match event_line(heap, line)? {
+            Ok(event) if number <= u64::from(self.numbering.last_number()) => {
+                self.append(number as u32, &event, stream)
+            }
+            Ok(_) => Ok(Err(Cause::Refused(Refusal::NumbersUsed))),
+            Err(cause) => Ok(Err(cause)),
         }
-        from += count;
+    }
+
+    // Writes an event part by part; nothing where its number has no text.
+    fn append(
+        &self,
+        number: u32,
+        event: &Entry,
+        stream: &mut Vec<u8>,
+    ) -> Result<Result<(), Cause>, AllocError>
+        ensures { IfOk result (λ o. Wrote N.Numbering.GREATEST N.Numbering.text self.now.end number (says (entry_of event.now)) stream.old.items stream.new.items (result_err o)) }
+    {
+        let mut part = [0u8; PART];
+        let mut from = 0;
+        loop {
+            let Some(count) = write_numbered(
+                self.numbering,
+                number,
+                event,
+                self.end,
+                from,
+                &mut part,
+            ) else {
+                return Ok(Err(Cause::Refused(Refusal::NumbersUsed)));
+            };
+            stream.extend_from_slice(&part[..count])?;
+            if count < PART {
+                return Ok(Ok(()));
+            }
+            from += count;
+        }
     }
 }

@@ -25,15 +25,15 @@ digit_back d h =
     ∙ cond-true _ _ _ (and_from _ _ (le-leb 97 (87 + d) (omega arith)) (le-leb (87 + d) 102 (omega arith)))
     ∙ ap Some same)
 
-digits_back : (b : ℕ) → b < 256 → numbered (hex_value (hex_of (b / 16))) (hex_value (hex_of (b % 16))) ≡ Byte b 4
+digits_back : (b : ℕ) → b < 256 → numbered (hex_value (hex_of (b / 16))) (hex_value (hex_of (b % 16))) ≡ Some (Byte b 4)
 digits_back b h =
     let whole : b / 16 * 16 + b % 16 ≡ b = omega arith in
-    ap₂ numbered (digit_back (b / 16) (omega arith)) (digit_back (b % 16) (omega arith)) ∙ ap (λ (x : ℕ). Byte x 4) whole
+    ap₂ numbered (digit_back (b / 16) (omega arith)) (digit_back (b % 16) (omega arith)) ∙ ap (λ (x : ℕ). Some (Byte x 4)) whole
 
 -- an item that stands for b is read as b
-item_read : (b n : ℕ) (s t : List ℕ) → item_of s ≡ Byte b n → drop n s ≡ t → within 0 s ≡ option_map (after (b ∷ [])) (within 0 t)
+item_read : (b n : ℕ) (s t : List ℕ) → item_of s ≡ Some (Byte b n) → drop n s ≡ t → within 0 s ≡ option_map (after (b ∷ [])) (within 0 t)
 item_read b n s t e d =
-    let step : By s (Byte b n) = subst (By s) e (by_first s) in
+    let step : By s (Some (Byte b n)) = subst (By s) e (by_first s) in
     step ∙ ap (λ (x : List ℕ). option_map (after (b ∷ [])) (within 0 x)) d
 
 byte_back : (b : ℕ) (t : List ℕ) → b < 256 → within 0 (escaped b ++ t) ≡ option_map (after (b ∷ [])) (within 0 t)
@@ -42,9 +42,9 @@ byte_back b t h =
     cond_both (eqb b 34 || eqb b 92) _ _ P
     (λ e. item_read b 2 (92 ∷ b ∷ t) t (cond-true _ _ _ e) refl)
     (λ ne. cond_both (eqb b 10) _ _ P
-    (λ e. item_read b 2 (92 ∷ 110 ∷ t) t (ap (λ (x : ℕ). Byte x 2) (sym (eqb-true b 10 e))) refl)
+    (λ e. item_read b 2 (92 ∷ 110 ∷ t) t (ap (λ (x : ℕ). Some (Byte x 2)) (sym (eqb-true b 10 e))) refl)
     (λ _. cond_both (eqb b 13) _ _ P
-    (λ e. item_read b 2 (92 ∷ 114 ∷ t) t (ap (λ (x : ℕ). Byte x 2) (sym (eqb-true b 13 e))) refl)
+    (λ e. item_read b 2 (92 ∷ 114 ∷ t) t (ap (λ (x : ℕ). Some (Byte x 2)) (sym (eqb-true b 13 e))) refl)
     (λ _. cond_both (leb 0x20 b && leb b 0x7e) _ _ P
     (λ e. let p = or_parts (eqb b 34) (eqb b 92) ne in item_read b 1 (b ∷ t) t (cond-false _ _ _ p.0 ∙ cond-false _ _ _ p.1 ∙ cond-true _ _ _ e) refl)
     (λ _. item_read b 4 (92 ∷ 120 ∷ hex_of (b / 16) ∷ hex_of (b % 16) ∷ t) t (digits_back b h) refl))))

@@ -1,4 +1,3 @@
-pub mod Counts
-pub mod Fronts
+pub mod Cuts
 pub mod Within
 pub mod Back

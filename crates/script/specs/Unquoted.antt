@@ -1,7 +1,7 @@
 -- Quoted text, read: what it stands for, and what is behind it.
 use Rattle.std.specs.Prelude.{◌≡◌, ℕ, zero, suc, ◌-◌, cond, List, [], ◌∷◌, ◌++◌, Some, None, codes, Option, ◌==◌, refl}
 use Rattle.std.specs.Option.{option_map}
-use Rattle.script.specs.declared.items.Item.TheVariants.{Byte, Close, Wrong}
+use Rattle.script.specs.declared.items.Item.TheVariants.{Byte, Close}
 use Rattle.script.specs.Items.{item_of}
 
 pub record Reading : Type 0 where
@@ -18,9 +18,9 @@ within skip [] = None
 within (suc skip) (b ∷ s) = within skip s
 within zero (b ∷ s) =
     elim (item_of (b ∷ s)) [
-      | Byte x length ↦ option_map (after (x ∷ [])) (within (length - 1) s)
-      | Close ↦ Some (record { bytes = []; rest = s })
-      | Wrong ↦ None
+      | Some (Byte x length) ↦ option_map (after (x ∷ [])) (within (length - 1) s)
+      | Some Close ↦ Some (record { bytes = []; rest = s })
+      | None ↦ None
     ]
 
 -- A text between quotes at the front of s, if one stands there.

@@ -7,23 +7,21 @@ use crate::texts::two_texts;
 use events::{Entry, Refusal};
 use std::alloc::{AllocError, Global};
 
-// What such a line says: an event, one that is refused, or nothing, since it is not of that form.
-#[derive(Clone, Copy)]
-pub enum EventLine {
-    Event(Entry),
+// Why a line gives no event.
+#[derive(Clone, Copy, Debug, PartialEq)]
+pub enum Cause {
+    // its event is refused
     Refused(Refusal),
+    // it is not a type and data between quotes
     Unreadable,
 }
 
-// What a line says whose two quoted texts are to be a type and data.
-pub fn event_line(heap: Global, line: &[u8]) -> Result<EventLine, AllocError>
+// The event of a line whose two quoted texts are to be a type and data.
+pub fn event_line(heap: Global, line: &[u8]) -> Result<Result<Entry, Cause>, AllocError>
     ensures { IfOk result (λ l. said_of l ≡ event_said line.now) }
 {
     let Some(texts) = two_texts(heap, line)? else {
-        return Ok(EventLine::Unreadable);
+        return Ok(Err(Cause::Unreadable));
     };
-    match Entry::new(&texts.first, &texts.second) {
-        Ok(entry) => Ok(EventLine::Event(entry)),
-        Err(refusal) => Ok(EventLine::Refused(refusal)),
-    }
+    Ok(Entry::new(&texts.first, &texts.second).map_err(Cause::Refused))
 }

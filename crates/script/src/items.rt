@@ -1,61 +1,49 @@
 // What stands within quotes, item by item.
 ghost use Rattle.std.specs.Prelude.{◌≡◌};
-ghost use Rattle.script.specs.Items.{hex_value, hex_item, marked_item, item_of};
+ghost use Rattle.script.specs.Items.{hex_value, numbered, marked_item, item_of};
 
-// A byte, however it is written, with the length of the item; or the quote that closes the text; or what may not stand there.
+// A byte, however it is written, with the length of the item; or the quote that closes the text.
 #[derive(Clone, Copy, Debug, PartialEq)]
 pub enum Item {
     Byte(u8, usize),
     Close,
-    Wrong,
 }
 
-// The item at the front of what stands within quotes.
-pub fn first_item(text: &[u8]) -> Item
+// The item at the front of what stands within quotes; none where something else stands there.
+pub fn first_item(text: &[u8]) -> Option<Item>
     ensures { result ≡ item_of text.now }
 {
     match text {
-        [b'"', ..] => Item::Close,
+        [b'"', ..] => Some(Item::Close),
         [b'\\', rest @ ..] => marked_item(rest),
-        [byte @ 0x20..=0x7e, ..] => Item::Byte(*byte, 1),
-        _ => Item::Wrong,
+        [byte @ 0x20..=0x7e, ..] => Some(Item::Byte(*byte, 1)),
+        _ => None,
     }
 }
 
 // The item that a backslash begins, by what follows that.
-fn marked_item(rest: &[u8]) -> Item
+fn marked_item(rest: &[u8]) -> Option<Item>
     ensures { result ≡ marked_item rest.now }
 {
     match rest {
-        [byte @ (b'"' | b'\\'), ..] => Item::Byte(*byte, 2),
-        [b'n', ..] => Item::Byte(b'\n', 2),
-        [b'r', ..] => Item::Byte(b'\r', 2),
-        [b'x', digits @ ..] => hex_item(digits),
-        _ => Item::Wrong,
+        [byte @ (b'"' | b'\\'), ..] => Some(Item::Byte(*byte, 2)),
+        [b'n', ..] => Some(Item::Byte(b'\n', 2)),
+        [b'r', ..] => Some(Item::Byte(b'\r', 2)),
+        [b'x', high, low, ..] => hex_item(*high, *low),
+        _ => None,
     }
 }
 
-// The item that a backslash and x begin, by what follows those.
-fn hex_item(digits: &[u8]) -> Item
-    ensures { result ≡ hex_item digits.now }
+// The item of a backslash, x and these two digits of base sixteen.
+fn hex_item(high: u8, low: u8) -> Option<Item>
+    ensures { result ≡ numbered (hex_value high) (hex_value low) }
 {
-    let [high, low, ..] = digits else {
-        return Item::Wrong;
-    };
-    match (hex_value(*high), hex_value(*low)) {
-        (Some(high), Some(low)) => Item::Byte(high * 16 + low, 4),
-        _ => Item::Wrong,
-    }
+    Some(Item::Byte(hex_value(high)? * 16 + hex_value(low)?, 4))
 }
 
 // The value of a digit of base sixteen, in either letter case.
 fn hex_value(digit: u8) -> Option<u8>
     ensures { result ≡ hex_value digit }
 {
-    match digit {
-        b'0'..=b'9' => Some(digit - b'0'),
-        b'a'..=b'f' => Some(digit - b'a' + 10),
-        b'A'..=b'F' => Some(digit - b'A' + 10),
-        _ => None,
-    }
+    char::from(digit).to_digit(16).map(|value| value as u8)
 }

@@ -9,8 +9,8 @@ mod laws;
 mod quoted;
 mod texts;
 
-pub use cutting::cut_line;
-pub use event::{EventLine, event_line};
+pub use cutting::{Lines, cut_line};
+pub use event::{Cause, event_line};
 pub use items::{Item, first_item};
 pub use laws::what_is_quoted_is_read_back;
 pub use quoted::{Unquoted, unquote};
@@ -25,29 +25,26 @@ mod tests {
     #[test]
     fn reads_an_event(rt: HostRuntime) -> Result<(), Fail> {
         match event_line(rt.alloc(), b" \"in\\x73ert\"\t\"\\\"\\\\\\n\\x00\\xfF\" ")? {
-            EventLine::Event(_) => Err(Fail::new("not UTF-8, and taken")),
-            EventLine::Refused(refusal) => {
+            Ok(_) => Err(Fail::new("not UTF-8, and taken")),
+            Err(Cause::Refused(refusal)) => {
                 assert_eq!(rt; refusal.number(), 4);
                 Ok(())
             }
-            EventLine::Unreadable => Err(Fail::new("not read")),
+            Err(Cause::Unreadable) => Err(Fail::new("not read")),
         }?;
         match event_line(rt.alloc(), b"\"in\\x73ert\" \"\\n\"")? {
-            EventLine::Event(entry) => {
+            Ok(entry) => {
                 assert!(rt;
                     entry.event_type() == b"insert".as_slice() && entry.data() == b"\n".as_slice()
                 );
                 Ok(())
-            },
-            _ => Err(Fail::new("no event")),
+            }
+            Err(_) => Err(Fail::new("no event")),
         }
     }
 
     fn unreadable(heap: Global, line: &[u8]) -> Result<bool, AllocError> {
-        match event_line(heap, line)? {
-            EventLine::Unreadable => Ok(true),
-            _ => Ok(false),
-        }
+        Ok(matches!(event_line(heap, line)?, Err(Cause::Unreadable)))
     }
 
     #[test]
@@ -73,5 +70,14 @@ mod tests {
                 && third == b"b".as_slice()
                 && rest == b"".as_slice()
         );
+    }
+
+    #[test]
+    fn goes_over_lines(rt: HostRuntime) {
+        let mut lines = Lines::new(b"a\n\nb\n");
+        assert!(rt; lines.next() == Some(b"a".as_slice()));
+        assert!(rt; lines.next() == Some(b"".as_slice()));
+        assert!(rt; lines.next() == Some(b"b".as_slice()));
+        assert!(rt; lines.next() == None);
     }
 }

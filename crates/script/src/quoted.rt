@@ -32,15 +32,15 @@ fn read_within<'a>(heap: Global, inner: &'a [u8]) -> Result<Option<Unquoted<'a>>
     let mut rest = inner;
     loop {
         match first_item(rest) {
-            Item::Byte(byte, length) => {
+            Some(Item::Byte(byte, length)) => {
                 bytes.push(byte)?;
                 rest = &rest[length..];
             }
-            Item::Close => {
+            Some(Item::Close) => {
                 let rest = &rest[1..];
                 return Ok(Some(Unquoted { bytes, rest }));
             }
-            Item::Wrong => return Ok(None),
+            None => return Ok(None),
         }
     }
 }

@@ -1,8 +1,9 @@
 // Quoted texts as the words of a line.
 ghost use Rattle.std.specs.Prelude.{◌≡◌, ◌≤◌, length, IfOk};
+ghost use Rattle.std.specs.List.{take_while};
 ghost use Rattle.std.specs.Option.{option_map};
 ghost use Rattle.script.specs.Code.{reading_of, texts_of};
-ghost use Rattle.script.specs.Texts.{blank, blanks, unblanked, word_ends, next_text, two_texts};
+ghost use Rattle.script.specs.Texts.{blank, unblanked, word_ends, next_text, two_texts};
 
 use crate::quoted::{Unquoted, unquote};
 use std::alloc::{AllocError, Global};
@@ -18,51 +19,35 @@ pub struct TwoTexts {
 pub fn skip_blanks<'a>(text: &'a [u8]) -> &'a [u8]
     ensures { result.now ≡ unblanked text.now }
 {
-    let (_, rest) = text.split_at(blank_count(text));
-    rest
+    &text[blank_count(text)..]
 }
 
 // How many blanks stand at the front of a text.
 fn blank_count(text: &[u8]) -> usize
-    ensures count { result ≡ blanks text.now }
+    ensures count { result ≡ length (take_while blank text.now) }
     ensures within { result ≤ length text.now }
 {
-    for (i, byte) in text.iter().enumerate() {
-        if !is_blank(*byte) {
-            return i;
-        }
-    }
-    text.len()
+    text.iter().take_while(|byte| is_blank(**byte)).count()
 }
 
 fn is_blank(byte: u8) -> bool
     ensures { result ≡ blank byte }
 {
-    byte == b' ' || byte == b'\t'
+    matches!(byte, b' ' | b'\t')
 }
 
 // Whether a word ends where the line goes on so: at a blank, or at the end.
 fn word_ends(rest: &[u8]) -> bool
     ensures { result ≡ word_ends rest.now }
 {
-    match rest {
-        [first, ..] => is_blank(*first),
-        [] => true,
-    }
+    rest.first().is_none_or(|byte| is_blank(*byte))
 }
 
 // The next word of a line, if it is a quoted text.
 pub fn next_text<'a>(heap: Global, line: &'a [u8]) -> Result<Option<Unquoted<'a>>, AllocError>
     ensures { IfOk result (λ o. option_map reading_of o ≡ next_text line.now) }
 {
-    let Some(text) = unquote(heap, skip_blanks(line))? else {
-        return Ok(None);
-    };
-    if word_ends(text.rest) {
-        Ok(Some(text))
-    } else {
-        Ok(None)
-    }
+    Ok(unquote(heap, skip_blanks(line))?.filter(|text| word_ends(text.rest)))
 }
 
 // The two texts of a line; none where it has other words, or more, or fewer.
