@@ -13,6 +13,7 @@ pub enum FieldFault {
     Sink(SinkFault),
 }
 
+// Written out, since clauses name the fault that `?` makes.
 impl From<SinkFault> for FieldFault {
     ghost from_gives = { λ e r. r ≡ Sink e };
 

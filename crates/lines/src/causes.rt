@@ -6,7 +6,8 @@ use crate::fault::{Fault, Layer, LineFault};
 use fields::FieldFault;
 
 impl Fault {
-    // 8 for a line, 9 for an id, 10 for a type and 11 for data over its limit, or the sink's own number.
+    // 8 for a line, 9 for an id, 10 for a type and 11 for data over its limit, or the sink's own number. A match, since a fault with
+    // another in it has no number of its own.
     pub fn number(&self) -> u32
         ensures { result ≡ (fault_said self.now).cause.number }
     {

@@ -12,6 +12,7 @@ pub enum LineFault {
     Field(FieldFault),
 }
 
+// Both written out, since clauses name the fault that `?` makes.
 impl From<Full> for LineFault {
     ghost from_gives = { λ _ r. r ≡ Long };
 

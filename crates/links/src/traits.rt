@@ -3,7 +3,8 @@ ghost use Rattle.links.specs.Offer.{Offer};
 
 // Bytes on their way, first in, first out. `waiting` are those put and not yet taken. What it has to offer at a moment, its room, may go up and
 // down as the link likes; only `least`, which no call changes, is sure: that much room there is whenever nothing waits. A link that is made
-// has 16 at least, and one that serves too.
+// has 16 at least, and one that serves too. That no call changes `least` and `serves` is a clause of each, since a law over links cannot
+// speak of a call.
 pub trait Link {
     ghost waiting: { Self → List ℕ };
 

@@ -20,7 +20,7 @@ const RESERVED: usize = 262145;
 // The number that an event is refused with where its line does not fit.
 const TRANSCRIPT_FULL: u32 = 29;
 
-// A digit of base sixteen.
+// A digit of base sixteen. What the library has for it gives a text, or a character that may be none.
 fn hex_digit(digit: u8) -> u8
     requires { digit < 16 }
     ensures { result ≡ hex_of digit }

@@ -10,7 +10,8 @@ ghost use Rattle.queue.specs.Items.{items, capacity_of};
 pub use buffer::Full;
 
 // A queue in lent memory, as long as the memory at most. It has no invariant: its items are there for every `start` and `len`,
-// so it can lie in any struct.
+// so it can lie in any struct. That no call changes how many items it can hold is a clause of each: the length of lent memory is no
+// constant that the type could carry.
 #[derive(Drop)]
 pub struct Queue<'a, T> {
     mem: &'a mut [T],

@@ -6,7 +6,8 @@ use crate::fault::SinkFault;
 use events::Event;
 
 // Takes events, one after another. `state` is what it stands at, and `fresh` says of a state that a new one stands so; for a
-// state and an event `refusal` is 0 or the number it is refused with, and `after` the state that keeping it leads to.
+// state and an event `refusal` is 0 or the number it is refused with, and `after` the state that keeping it leads to. The two are no record:
+// a sink gives each by itself, and what is said of sinks one above another takes the pair.
 pub trait Sink {
     ghost State: { Type 0 };
 

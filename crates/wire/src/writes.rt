@@ -26,6 +26,7 @@ pub fn write_numbered<N: Numbering>(
     ensures lawful { 1 ≤ number → number ≤ N.Numbering.GREATEST → Lawful (sent_event (N.Numbering.text number) (entry_of event.now)) }
     ensures alone { 1 ≤ number → number ≤ N.Numbering.GREATEST → Means (written end (N.Numbering.text number) (entry_of event.now)) (sent_event (N.Numbering.text number) (entry_of event.now) ∷ []) }
 {
+    // the longest text of any numbering, in fixed memory
     let mut id = [0; 32];
     let len = numbering.write(number, &mut id)?;
     Some(write_event(end, &id[..len], event, from, out))
