@@ -5,6 +5,9 @@ use Rattle.std.proofs.lemmas.Bool.{and_parts, leb-true, ltb-true}
 use Rattle.std.proofs.lemmas.Bool.Decides.{nat_tests}
 use Rattle.sink.specs.Chain.{Edit, insert, remove, other, lawful, edited, refused}
 use Rattle.sink.specs.Capped.{cap64, capped}
+use Rattle.sink.proofs.Places.{inserts_one, removes_one, lawful_after_insert, lawful_after_remove, lawful_in_front}
+use Rattle.sink.proofs.Reading.{reads_the_pair, no_pair_without_a_space}
+use Rattle.std.proofs.lemmas.List.{length-take}
 use Rattle.sink.specs.declared.edit.Edit.TheVariants.{Insert, Remove}
 
 -- two choices by one test, whose first ways are equal where it holds
@@ -56,3 +59,6 @@ module _ (row : List ℕ) (few : length row ≤ 8) where
   as_nothing_read (insert p c) q = let z : ◌≡◌ {A = ℕ} 0 1 = cc in absurd (omega arith)
   as_nothing_read (remove p) q = let z : ◌≡◌ {A = ℕ} 0 1 = cc in absurd (omega arith)
   as_nothing_read other q = (refl, refl)
+
+-- what the proofs of the calls draw on
+pub ruleset sink_laws = (as_the_insert_read, as_the_remove_read, as_nothing_read, inserts_one, removes_one, lawful_after_insert, lawful_after_remove, lawful_in_front, reads_the_pair, no_pair_without_a_space, length-take)

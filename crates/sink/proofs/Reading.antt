@@ -1,14 +1,11 @@
 -- What the parts of an event, once read, make of it.
-use Rattle.std.proofs.Common.{◌≡◌, ℕ, ◌+◌, ◌-◌, Bool, true, false, eqb, List, [], length, take, drop, Some, None, codes, Option, sym, refl, ap, ◌∙◌, ap₂, arith}
+use Rattle.std.proofs.Common.{◌≡◌, ℕ, ◌+◌, ◌-◌, Bool, eqb, List, [], length, take, drop, Some, None, Option, sym, refl, ap, ◌∙◌, ap₂, arith}
 use Rattle.std.proofs.lemmas.List.{take_rest, drop_all}
-use Rattle.std.proofs.lemmas.Bool.{cond-true, cond-false}
 use Rattle.std.specs.List.{position}
-use Rattle.std.specs.Str.{bytes_eq}
 use Rattle.machine.proofs.Positions.{found_at, found_nowhere}
 use Rattle.std.specs.Option.{option_map}
 use Rattle.sink.specs.Numeral.{numeral}
-use Rattle.events.specs.Event.{Event}
-use Rattle.sink.specs.Chain.{to_space, insert_of, insertion, removal, edit_of, other}
+use Rattle.sink.specs.Chain.{to_space, insert_of, insertion}
 use Rattle.sink.specs.Capped.{cap64, capped}
 use Rattle.sink.specs.declared.edit.Edit.{Edit}
 use Rattle.sink.specs.declared.edit.Edit.TheVariants.{Insert}
@@ -44,15 +41,3 @@ module _ (s : List ℕ) where
       no_code : (place : Option ℕ) → None ≡ capped (insert_of place None)
       no_code (Some place) = refl
       no_code None = refl
-
-module _ (e : Event) where
-  pub asks_to_insert : bytes_eq e.type (codes "insert") ≡ true → insertion e.«data» ≡ edit_of e
-  asks_to_insert i = sym (cond-true (bytes_eq e.type (codes "insert")) (insertion e.«data») _ i)
-
-  pub asks_to_remove : bytes_eq e.type (codes "insert") ≡ false → bytes_eq e.type (codes "remove") ≡ true → removal e.«data» ≡ edit_of e
-  asks_to_remove i r =
-      sym (cond-false (bytes_eq e.type (codes "insert")) (insertion e.«data») _ i ∙ cond-true (bytes_eq e.type (codes "remove")) (removal e.«data») other r)
-
-  pub asks_for_neither : bytes_eq e.type (codes "insert") ≡ false → bytes_eq e.type (codes "remove") ≡ false → other ≡ edit_of e
-  asks_for_neither i r =
-      sym (cond-false (bytes_eq e.type (codes "insert")) (insertion e.«data») _ i ∙ cond-false (bytes_eq e.type (codes "remove")) (removal e.«data») other r)

@@ -1,6 +1,6 @@
 // Where finished events go: what a sink is, and the chain of effects.
 
-#![tactic(auto)]
+#![tactic(auto, using(crate::proofs::Asking::sink_laws))]
 
 mod chain;
 mod edit;
