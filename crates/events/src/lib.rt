@@ -1,6 +1,6 @@
 // What an event is, as every layer hands it on, and why a call is refused.
 
-#![tactic(auto)]
+#![tactic(auto, using(crate::proofs::Texts::passed_lengths))]
 
 ghost use Rattle.events.specs.Event.{event_of};
 
