@@ -1,6 +1,8 @@
 // What the words of the command line ask for.
-use decimal::capped;
-use events::LineEnd;
+use decimal::number;
+use events::{LineEnd, UnknownLineEnd};
+use std::fmt;
+use std::str::FromStr;
 
 // What to do; with a number, the stream is handed on in pieces of that length.
 #[derive(Clone, Copy)]
@@ -10,10 +12,6 @@ pub(crate) enum Command {
     Count(Option<usize>),
     Journal,
     Write(Numbers, LineEnd),
-    // a number that is none of those that a piece can have
-    BadPiece,
-    // words that are no command
-    Unknown(&'static str),
 }
 
 // The numberings that a command line can name.
@@ -21,6 +19,50 @@ pub(crate) enum Command {
 pub(crate) enum Numbers {
     Decimal,
     Bank,
+}
+
+// Why words are no command.
+#[derive(Clone, Copy, Debug, PartialEq)]
+pub(crate) enum UsageError {
+    // a number that is none of those that a piece can have
+    BadPiece,
+    TooManyWords,
+    UnknownWord,
+    // `write` with another number of words
+    NoForm,
+    UnknownNumbering,
+    UnknownLineEnd,
+}
+
+impl fmt::Display for UsageError {
+    fn fmt<W: fmt::Write>(&self, f: &mut fmt::Formatter<W>) -> fmt::Result {
+        f.write_str(match self {
+            UsageError::BadPiece => "a piece has 1 to 4096 bytes",
+            UsageError::TooManyWords => "too many words",
+            UsageError::UnknownWord => "unknown word",
+            UsageError::NoForm => "write takes a numbering and a line end",
+            UsageError::UnknownNumbering => "unknown numbering",
+            UsageError::UnknownLineEnd => "unknown line end",
+        })
+    }
+}
+
+impl From<UnknownLineEnd> for UsageError {
+    fn from(_: UnknownLineEnd) -> UsageError {
+        UsageError::UnknownLineEnd
+    }
+}
+
+impl FromStr for Numbers {
+    type Err = UsageError;
+
+    fn from_str(word: &str) -> Result<Numbers, UsageError> {
+        match word {
+            "decimal" => Ok(Numbers::Decimal),
+            "bank" => Ok(Numbers::Bank),
+            _ => Err(UsageError::UnknownNumbering),
+        }
+    }
 }
 
 pub(crate) fn usage() -> &'static str {
@@ -37,76 +79,44 @@ or bank, END is lf, crlf or cr; without them it is decimal and lf.
 }
 
 // The command that the words ask for, the program's own name first.
-pub(crate) fn asked(words: &[String]) -> Command {
+pub(crate) fn asked(words: &[String]) -> Result<Command, UsageError> {
     match words {
-        [] | [_] => Command::Help,
-        [_, word] => one_word(word.as_bytes()),
-        [_, word, more @ ..] => with_more(word.as_bytes(), more),
+        [] | [_] => Ok(Command::Help),
+        [_, word] => one_word(word),
+        [_, word, more @ ..] => with_more(word, more),
     }
 }
 
-fn one_word(word: &[u8]) -> Command {
+fn one_word(word: &str) -> Result<Command, UsageError> {
     match word {
-        b"help" => Command::Help,
-        b"journal" => Command::Journal,
-        b"write" => Command::Write(Numbers::Decimal, LineEnd::Lf),
+        "help" => Ok(Command::Help),
+        "journal" => Ok(Command::Journal),
+        "write" => Ok(Command::Write(Numbers::Decimal, LineEnd::Lf)),
         _ => with_piece(word, None),
     }
 }
 
-fn with_more(word: &[u8], more: &[String]) -> Command {
+fn with_more(word: &str, more: &[String]) -> Result<Command, UsageError> {
+    match (word, more) {
+        ("write", [numbering, end]) => Ok(Command::Write(numbering.parse()?, end.parse()?)),
+        ("write", _) => Err(UsageError::NoForm),
+        (_, [number]) => with_piece(word, Some(piece_of(number)?)),
+        _ => Err(UsageError::TooManyWords),
+    }
+}
+
+fn piece_of(word: &str) -> Result<usize, UsageError> {
+    match number(word.as_bytes()) {
+        Some(piece @ 1..=4096) => Ok(piece as usize),
+        _ => Err(UsageError::BadPiece),
+    }
+}
+
+fn with_piece(word: &str, piece: Option<usize>) -> Result<Command, UsageError> {
     match word {
-        b"write" => with_form(more),
-        _ => with_number(word, more),
-    }
-}
-
-fn with_number(word: &[u8], more: &[String]) -> Command {
-    let [number] = more else {
-        return Command::Unknown("too many words");
-    };
-    match capped(number.as_bytes(), 4097) {
-        Some(0) | Some(4097) | None => Command::BadPiece,
-        Some(piece) => with_piece(word, Some(piece as usize)),
-    }
-}
-
-fn with_piece(word: &[u8], piece: Option<usize>) -> Command {
-    match word {
-        b"read" => Command::Read(piece),
-        b"count" => Command::Count(piece),
-        b"help" | b"journal" => Command::Unknown("too many words"),
-        _ => Command::Unknown("unknown word"),
-    }
-}
-
-fn with_form(more: &[String]) -> Command {
-    let [numbering, end] = more else {
-        return Command::Unknown("write takes a numbering and a line end");
-    };
-    match (
-        numbers_named(numbering.as_bytes()),
-        line_end_named(end.as_bytes()),
-    ) {
-        (Some(numbers), Some(end)) => Command::Write(numbers, end),
-        (None, _) => Command::Unknown("unknown numbering"),
-        (_, None) => Command::Unknown("unknown line end"),
-    }
-}
-
-fn numbers_named(word: &[u8]) -> Option<Numbers> {
-    match word {
-        b"decimal" => Some(Numbers::Decimal),
-        b"bank" => Some(Numbers::Bank),
-        _ => None,
-    }
-}
-
-fn line_end_named(word: &[u8]) -> Option<LineEnd> {
-    match word {
-        b"lf" => Some(LineEnd::Lf),
-        b"crlf" => Some(LineEnd::CrLf),
-        b"cr" => Some(LineEnd::Cr),
-        _ => None,
+        "read" => Ok(Command::Read(piece)),
+        "count" => Ok(Command::Count(piece)),
+        "help" | "journal" => Err(UsageError::TooManyWords),
+        _ => Err(UsageError::UnknownWord),
     }
 }

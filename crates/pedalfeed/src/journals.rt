@@ -1,21 +1,20 @@
 // A journal on standard input.
-use crate::input::fill;
 use crate::output::Output;
 use events::Event;
 use journal::{JournalReader, Stored};
 use notation::Transcript;
 use sink::Sink;
 use std::alloc::{AllocError, Global};
-use std::io;
+use std::io::Read;
 
 // One byte over the longest journal, so that a longer one shows.
 const MEMORY: usize = 65_537;
 
 // Prints the events of the journal on standard input, and then its end or why it cannot be read on.
 pub(crate) fn tell_journal(rt: &HostRuntime) -> anyhow::Result<()> {
-    let mut memory = vec![in rt.alloc(); 0u8; MEMORY]?;
-    let filled = fill(rt, &mut memory)?;
-    match JournalReader::new(&memory[0..filled]) {
+    let mut bytes = Vec::with_capacity(rt.alloc(), MEMORY)?;
+    rt.stdin().take(MEMORY as u64).read_to_end(&mut bytes)?;
+    match JournalReader::new(&bytes) {
         Ok(mut reader) => tell_events(rt, &mut reader),
         Err(refusal) => {
             println!(rt; "refused {}", refusal.number())?;
@@ -24,10 +23,10 @@ pub(crate) fn tell_journal(rt: &HostRuntime) -> anyhow::Result<()> {
     }
 }
 
-// No journal has more events than bytes, so this many turns are enough.
+#[tactic(auto, using(crate::proofs::Whole::less_is_left))]
 fn tell_events(rt: &HostRuntime, reader: &mut JournalReader<'_>) -> anyhow::Result<()> {
     let mut transcript = Transcript::new(rt.alloc())?;
-    for _ in 0..MEMORY {
+    loop {
         match reader.next(b"message") {
             Ok(Some(stored)) => tell_event(rt, stored, &mut transcript)?,
             Ok(None) => {
@@ -40,7 +39,6 @@ fn tell_events(rt: &HostRuntime, reader: &mut JournalReader<'_>) -> anyhow::Resu
             }
         }
     }
-    Ok(())
 }
 
 fn tell_event(
@@ -61,8 +59,8 @@ fn tell_event(
 // The data of a stored event, its pieces joined.
 fn data_of(heap: Global, stored: Stored<'_>) -> Result<Vec<u8>, AllocError> {
     let mut data = Vec::new(heap);
-    for i in 0..stored.piece_count() {
-        data.extend_from_slice(stored.piece(i))?;
+    for piece in stored.pieces() {
+        data.extend_from_slice(piece)?;
     }
     Ok(data)
 }

@@ -8,7 +8,7 @@ mod journals;
 mod output;
 mod write;
 
-use crate::command::{Command, asked, usage};
+use crate::command::{Command, UsageError, asked, usage};
 use crate::input::read_input;
 use crate::journals::tell_journal;
 use crate::output::tell_end;
@@ -22,33 +22,29 @@ use std::process::ExitCode;
 fn main(rt: HostRuntime) -> anyhow::Result<ExitCode> {
     let words: Vec<String> = env::args(&rt)?.collect(rt.alloc())?;
     match asked(&words) {
-        Command::Help => {
-            rt.print(usage())?;
-            Ok(ExitCode::SUCCESS)
-        }
-        Command::Read(piece) => {
-            read(&rt, piece)?;
-            Ok(ExitCode::SUCCESS)
-        }
-        Command::Count(piece) => {
-            count(&rt, piece)?;
-            Ok(ExitCode::SUCCESS)
-        }
-        Command::Journal => {
-            tell_journal(&rt)?;
-            Ok(ExitCode::SUCCESS)
-        }
-        Command::Write(numbers, end) => write(&rt, numbers, end),
-        Command::BadPiece => {
-            eprintln!(rt; "error: a piece has 1 to 4096 bytes")?;
-            Ok(ExitCode::FAILURE)
-        }
-        Command::Unknown(why) => {
-            eprintln!(rt; "error: {why}")?;
-            rt.stderr().print(usage())?;
-            Ok(ExitCode::FAILURE)
-        }
+        Ok(command) => run(&rt, command),
+        Err(error) => refuse(&rt, error),
     }
+}
+
+fn run(rt: &HostRuntime, command: Command) -> anyhow::Result<ExitCode> {
+    match command {
+        Command::Help => rt.print(usage())?,
+        Command::Read(piece) => read(rt, piece)?,
+        Command::Count(piece) => count(rt, piece)?,
+        Command::Journal => tell_journal(rt)?,
+        Command::Write(numbers, end) => return write(rt, numbers, end),
+    }
+    Ok(ExitCode::SUCCESS)
+}
+
+// Tells why the words are no command, and, unless only a number is wrong, how to use the program.
+fn refuse(rt: &HostRuntime, error: UsageError) -> anyhow::Result<ExitCode> {
+    eprintln!(rt; "error: {error}")?;
+    if error != UsageError::BadPiece {
+        rt.stderr().print(usage())?;
+    }
+    Ok(ExitCode::FAILURE)
 }
 
 // Prints each event, and how the stream ended.

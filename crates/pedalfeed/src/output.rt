@@ -30,6 +30,7 @@ impl Output for Tally {
 // Prints the last event ID, the reconnection time and the fault, if there is one.
 pub(crate) fn tell_end(rt: &HostRuntime, reader: &Reader) -> anyhow::Result<()> {
     let mut line = Transcript::new(rt.alloc())?;
+    // Each program makes these two calls: one for both would have to fail for want of room too, and is no plainer.
     let _ = line.note(b"last", reader.last_id());
     line.show(rt)?;
     rt.print(end_lines(rt.alloc(), reader)?)?;

@@ -26,6 +26,7 @@ fn write_all<N: Numbering>(
     let mut stream = Vec::new(rt.alloc());
     let stop = write_lines(rt.alloc(), numbering, end, text, &mut stream)?;
     rt.stdout().write_all(&stream)?;
+    // `readback` ends so too: no library of ours prints, and one that only did this would be no plainer.
     match stop {
         Some(stop) => {
             eprintln!(rt; "{stop}")?;

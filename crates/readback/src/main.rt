@@ -20,6 +20,7 @@ fn main(rt: HostRuntime) -> anyhow::Result<ExitCode> {
     let mut stream = Vec::new(rt.alloc());
     let stop = write_lines(rt.alloc(), &Bank, LineEnd::CrLf, &text, &mut stream)?;
     tell_stream(&rt, &stream)?;
+    // `pedalfeed write` ends so too: no library of ours prints, and one that only did this would be no plainer.
     match stop {
         Some(stop) => {
             eprintln!(rt; "{stop}")?;

@@ -1,6 +1,6 @@
 // The cases, as standard input has them.
 use crate::quoted::unquote;
-use anyhow::anyhow;
+use anyhow::{Context, anyhow};
 use decimal::capped;
 use std::alloc::Global;
 use std::io::{BufRead, BufReader};
@@ -40,12 +40,8 @@ impl Case {
 
     // Takes a number and the text that stands in the stream so often.
     fn take_repeated(&mut self, repeated: &str) -> anyhow::Result<()> {
-        let Some((number, text)) = repeated.split_once(' ') else {
-            return Err(anyhow!("no text to repeat"));
-        };
-        let Some(times) = capped(number.as_bytes(), MOST_REPEATS) else {
-            return Err(anyhow!("no number of times"));
-        };
+        let (number, text) = repeated.split_once(' ').context("no text to repeat")?;
+        let times = capped(number.as_bytes(), MOST_REPEATS).context("no number of times")?;
         for _ in 0..times {
             unquote(text.as_bytes(), &mut self.stream)?;
         }
@@ -56,10 +52,9 @@ impl Case {
 // All cases of standard input.
 pub(crate) fn read_cases(rt: &HostRuntime) -> anyhow::Result<Vec<Case>> {
     let mut cases = Vec::new(rt.alloc());
-    let mut number = 0u64;
-    for line in BufReader::new(rt.alloc(), rt.stdin())?.lines(rt.alloc()) {
+    let lines = BufReader::new(rt.alloc(), rt.stdin())?.lines(rt.alloc());
+    for (number, line) in (1u64..).zip(lines) {
         let line = line?;
-        number = number.saturating_add(1);
         if let Err(why) = take_line(rt.alloc(), &mut cases, line.as_str()) {
             return Err(anyhow!(format!(in rt.alloc(); "line {number}: {why}")?));
         }
@@ -76,8 +71,6 @@ pub(crate) fn take_line(heap: Global, cases: &mut Vec<Case>, line: &str) -> anyh
         cases.push(Case::new(heap, name)?)?;
         return Ok(());
     }
-    match cases.last_mut() {
-        Some(case) => case.take_line(line),
-        None => Err(anyhow!("a line before the first case")),
-    }
+    let case = cases.last_mut().context("a line before the first case")?;
+    case.take_line(line)
 }

@@ -8,7 +8,7 @@ mod trial;
 
 use crate::cases::{Case, read_cases};
 use crate::trial::{PIECES, meets};
-use anyhow::anyhow;
+use anyhow::ensure;
 
 fn main(rt: HostRuntime) -> anyhow::Result<()> {
     run(&rt)
@@ -24,9 +24,7 @@ fn run(rt: &HostRuntime) -> anyhow::Result<()> {
     }
     let all = cases.len();
     println!(rt; "{all} cases, {failed} failed")?;
-    if failed > 0 {
-        return Err(anyhow!("a case failed"));
-    }
+    ensure!(failed == 0, "a case failed");
     Ok(())
 }
 

@@ -16,8 +16,6 @@ pub(crate) fn meets(heap: Global, case: &Case, size: usize) -> Result<bool, Allo
     }
     let _ = transcript.note(b"last", reader.last_id());
     let end = end_lines(heap, &reader)?;
-    match case.expected.strip_prefix(transcript.text()) {
-        Some(rest) => Ok(rest == end.as_bytes()),
-        None => Ok(false),
-    }
+    let rest = case.expected.strip_prefix(transcript.text());
+    Ok(rest.is_some_and(|rest| rest == end.as_bytes()))
 }
