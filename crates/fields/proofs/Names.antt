@@ -1,6 +1,6 @@
 -- The two sides of a line's first colon, by its place.
 use Rattle.std.proofs.Common.{◌≡◌, ℕ, suc, ◌+◌, ◌-◌, Bool, true, false, cond, not, eqb, List, [], ◌∷◌, length, take, drop, Some, None, sym, refl, ap, ◌∙◌, one-add, arith}
-use Rattle.std.proofs.lemmas.List.{take_rest, take_all, drop_all}
+use Rattle.std.proofs.lemmas.List.{take_rest, take_all, drop_all, length-append}
 use Rattle.std.specs.List.{position, position_or_len}
 use Rattle.machine.proofs.Positions.{found_at, found_nowhere}
 use Rattle.fields.specs.Field.{before, after, unspaced, value}
@@ -42,3 +42,6 @@ module _ (s : List ℕ) where
       let h = found_nowhere colon s e in
       let past : drop (position_or_len colon s + 1) s ≡ [] = drop_all (position_or_len colon s + 1) s (omega arith) in
       sym (ap unspaced (after_first_colon s ∙ past))
+
+-- what the proofs of the calls draw on
+pub ruleset field_laws = (name_at, value_at, name_alone, no_value, length-append)

@@ -1,6 +1,6 @@
 // From a finished line to a block of fields, and from a finished block to an event for the sink.
 
-#![tactic(auto)]
+#![tactic(auto, using(crate::proofs::Names::field_laws))]
 
 mod block;
 mod fault;

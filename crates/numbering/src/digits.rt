@@ -12,6 +12,7 @@ pub fn put_decimal(n: u32, out: &mut [u8]) -> Option<usize>
 {
     let mut buffer = Buffer::new();
     let digits = buffer.format(n).as_bytes();
+    // a test, since a part that is asked for by `get_mut` tells a proof none of its bytes
     if digits.len() > out.len() {
         return None;
     }

@@ -2,7 +2,8 @@ ghost use Rattle.std.specs.Prelude.{◌≡◌, ℕ, ◌≤◌, List, ◌++◌, l
 ghost use Rattle.numbering.specs.Meaning.{Printed, Names, fits};
 
 // Gives each number from 1 to its greatest a text, and reads a text as a number exactly when it is that number's.
-// `text` and `reading` are these; the members behind them are the laws that hold of every numbering.
+// `text` and `reading` are these; the members behind them are the laws that hold of every numbering. A constant stands twice, for code
+// and for clauses, and is proved to be the same.
 pub trait Numbering {
     // The last number that has a text.
     const GREATEST: u32;
