@@ -72,10 +72,6 @@ pub by_first : (s : List ℕ) → By s (item_of s)
 by_first [] = refl
 by_first (b ∷ s) = by_item b s (item_of (b ∷ s)) refl (item_lies (b ∷ s))
 
-pub after_none : (o : Option Reading) → o ≡ option_map (after []) o
-after_none (Some r) = refl
-after_none None = refl
-
 after_more : (bs cs : List ℕ) (o : Option Reading) → option_map (after bs) (option_map (after cs) o) ≡ option_map (after (bs ++ cs)) o
 after_more bs cs (Some r) = ap (λ (x : List ℕ). Some (record { bytes = x; rest = r.rest })) (sym (append_assoc bs cs r.bytes))
 after_more bs cs None = refl
@@ -92,11 +88,6 @@ module _ (o : Option Reading) (bs s : List ℕ) (so_far : o ≡ option_map (afte
   read_all e =
       let step : By s (Some Close) = subst (By s) (sym e) (by_first s) in
       sym (so_far ∙ ap (option_map (after bs)) step ∙ ap₂ (λ (x y : List ℕ). Some (record { bytes = x; rest = y })) (append-nil bs) (sym (take_rest s 1)))
-
-  pub read_none : None ≡ item_of s → None ≡ o
-  read_none e =
-      let step : By s None = subst (By s) (sym e) (by_first s) in
-      sym (so_far ∙ ap (option_map (after bs)) step)
 
 pub byte_lies : (s : List ℕ) (b n : ℕ) → Some (Byte b n) ≡ item_of s → (1 ≤ n) × (n ≤ length s)
 byte_lies s b n e = subst (Lies (length s)) (sym e) (item_lies s)

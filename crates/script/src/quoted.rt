@@ -25,6 +25,7 @@ pub fn unquote<'a>(heap: Global, text: &'a [u8]) -> Result<Option<Unquoted<'a>>,
 }
 
 // What stands within quotes at the front of `inner`, up to the closing one.
+#[tactic(auto, using(crate::proofs::Within::byte_lies))]
 fn read_within<'a>(heap: Global, inner: &'a [u8]) -> Result<Option<Unquoted<'a>>, AllocError>
     ensures { IfOk result (λ o. option_map reading_of o ≡ within 0 inner.now) }
 {

@@ -1,19 +1,7 @@
-use Rattle.std.proofs.Common.{vec_items, arith, rules}
-use Rattle.std.proofs.lemmas.List.{length-take, length-drop}
+use Rattle.std.proofs.Common.{vec_items}
 use Rattle.script.specs.Unquoted.{within}
-use Rattle.script.proofs.Within.{byte_lies, read_more, read_all}
+use Rattle.script.proofs.Within.{read_more, read_all}
 use Rattle.script.proofs.quoted.read_within.Goals as goal
-
-pub slice_bounds-rest-count : goal.slice_bounds-rest-count
-slice_bounds-rest-count c = (byte_lies c.loop-byte.rest.now c.in-Some-Byte.byte c.in-Some-Byte.length (rw c.in-Some-Byte.field-0-is at c.in-Some-Byte.ensures)).1
-
-pub slice_bounds-rest-start : goal.slice_bounds-rest-start
-slice_bounds-rest-start c = let h = byte_lies c.loop-byte.rest.now c.in-Some-Byte.byte c.in-Some-Byte.length (rw c.in-Some-Byte.field-0-is at c.in-Some-Byte.ensures) in search rules
-
-pub loop-byte-smaller : goal.loop-byte-smaller
-loop-byte-smaller c =
-    let h = byte_lies c.loop-byte.rest.now c.in-Some-Byte.byte c.in-Some-Byte.length (rw c.in-Some-Byte.field-0-is at c.in-Some-Byte.ensures) in
-    simp (length-take, length-drop) (omega arith)
 
 pub loop-byte-preserved : goal.loop-byte-preserved
 loop-byte-preserved c =
