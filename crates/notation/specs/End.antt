@@ -1,23 +1,15 @@
 -- How a reading ended, in lines: the reconnection time, and the fault if there is one.
 use Rattle.std.specs.Prelude.{◌≡◌, ℕ, List, ◌++◌, Some, None, codes, decimal, Option, refl}
 use Rattle.std.specs.Fmt.{digits}
-use Rattle.fields.specs.Cause.{Layer, line, field, sink}
+use Rattle.fields.specs.Cause.{field}
 use Rattle.lines.specs.Reader.{Fault}
-
-abbrev pub layer_name : Layer → List ℕ
-layer_name line = codes "line"
-layer_name field = codes "field"
-layer_name sink = codes "sink"
+use Rattle.lines.specs.Print.{fault_text}
 
 abbrev pub retry_line : ℕ → List ℕ
 retry_line time = codes "retry " ++ (decimal time ++ codes "\n")
 
-abbrev pub fault_text : ℕ → List ℕ → ℕ → ℕ → List ℕ
-fault_text number layer row byte =
-    codes "fault " ++ (decimal number ++ (codes " " ++ (layer ++ (codes " line " ++ (decimal row ++ (codes " byte " ++ (decimal byte ++ codes "\n")))))))
-
 abbrev pub fault_line : Fault → List ℕ
-fault_line f = fault_text f.cause.number (layer_name f.cause.layer) f.line f.byte
+fault_line f = fault_text f ++ codes "\n"
 
 abbrev pub end_lines : ℕ → Option Fault → List ℕ
 end_lines time None = retry_line time

@@ -1,10 +1,10 @@
 // How a reading ended.
 ghost use Rattle.std.specs.Prelude.{◌≡◌, IfOk, string_bytes};
-ghost use Rattle.lines.specs.Code.{fault_said, layer_said, reader_of};
+ghost use Rattle.lines.specs.Code.{fault_said, reader_of};
 ghost use Rattle.lines.specs.Reader.{fault_of, retry_of};
-ghost use Rattle.notation.specs.End.{layer_name, retry_line, fault_text, fault_line, end_lines};
+ghost use Rattle.notation.specs.End.{retry_line, fault_line, end_lines};
 
-use lines::{Fault, Layer, Reader};
+use lines::{Fault, Reader};
 use std::alloc::{AllocError, Global};
 
 // The reconnection time in a line, and the fault in another if there is one.
@@ -12,13 +12,10 @@ pub fn end_lines(heap: Global, reader: &Reader) -> Result<String, AllocError>
     ensures { IfOk result (λ s. string_bytes s ≡ end_lines (retry_of (reader_of reader.now)) (fault_of (reader_of reader.now))) }
 {
     let mut lines = retry_line(heap, reader.retry())?;
-    match reader.fault() {
-        Some(fault) => {
-            lines.push_str(&fault_line(heap, fault)?)?;
-            Ok(lines)
-        }
-        None => Ok(lines),
+    if let Some(fault) = reader.fault() {
+        lines.push_str(&fault_line(heap, fault)?)?;
     }
+    Ok(lines)
 }
 
 fn retry_line(heap: Global, time: u32) -> Result<String, AllocError>
@@ -30,28 +27,5 @@ fn retry_line(heap: Global, time: u32) -> Result<String, AllocError>
 fn fault_line(heap: Global, fault: Fault) -> Result<String, AllocError>
     ensures { IfOk result (λ s. string_bytes s ≡ fault_line (fault_said fault)) }
 {
-    let layer = layer_name(fault.layer());
-    fault_text(heap, fault.number(), layer, fault.line, fault.byte)
-}
-
-fn fault_text(
-    heap: Global,
-    number: u32,
-    layer: &str,
-    line: u32,
-    byte: u32,
-) -> Result<String, AllocError>
-    ensures { IfOk result (λ s. string_bytes s ≡ fault_text number layer.now line byte) }
-{
-    format!(in heap; "fault {number} {layer} line {line} byte {byte}\n")
-}
-
-fn layer_name(layer: Layer) -> &'static str
-    ensures { result.now ≡ layer_name (layer_said layer) }
-{
-    match layer {
-        Layer::Line => "line",
-        Layer::Field => "field",
-        Layer::Sink => "sink",
-    }
+    format!(in heap; "{fault}\n")
 }
