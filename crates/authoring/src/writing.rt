@@ -64,7 +64,8 @@ impl<'a, N: Numbering> Form<'a, N> {
         }
     }
 
-    // Writes an event part by part; nothing where its number has no text.
+    // Writes an event part by part; nothing where its number has no text. How far it has come is counted: the call that writes takes a byte
+    // to begin at, and tells how many it wrote.
     fn append(
         &self,
         number: u32,
