@@ -91,6 +91,7 @@ impl<'a, N: Numbering> Form<'a, N> {
             if count < PART {
                 return Ok(Ok(()));
             }
+            // only the part itself tells where the next one begins
             from += count;
         }
     }

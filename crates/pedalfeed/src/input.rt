@@ -20,6 +20,7 @@ pub(crate) fn read_input<S: Output>(
     sink: &mut S,
 ) -> anyhow::Result<()> {
     let mut part = Vec::with_capacity(rt.alloc(), PART)?;
+    // Input need not end, so the turns are counted: without a count nothing says that the loop ends.
     for _ in 0..u64::MAX {
         match piece {
             Some(piece) => read_pieces(rt, piece, &mut part)?,
