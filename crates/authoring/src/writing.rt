@@ -64,8 +64,7 @@ impl<'a, N: Numbering> Form<'a, N> {
         }
     }
 
-    // Writes an event part by part; nothing where its number has no text. How far it has come is counted: the call that writes takes a byte
-    // to begin at, and tells how many it wrote.
+    // Writes an event part by part; nothing where its number has no text.
     fn append(
         &self,
         number: u32,
