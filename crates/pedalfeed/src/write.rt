@@ -10,6 +10,7 @@ use std::process::ExitCode;
 pub(crate) fn write(rt: &HostRuntime, numbers: Numbers, end: LineEnd) -> anyhow::Result<ExitCode> {
     let mut text = Vec::new(rt.alloc());
     rt.stdin().read_to_end(&mut text)?;
+    // no trait object: the constants of a numbering belong to its type
     match numbers {
         Numbers::Decimal => write_all(rt, &Decimal, end, &text),
         Numbers::Bank => write_all(rt, &Bank, end, &text),
