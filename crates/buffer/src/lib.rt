@@ -2,23 +2,35 @@
 
 #![tactic(auto)]
 
-ghost use Rattle.std.specs.Prelude.{◌≡◌, ◌+◌, [], ◌∷◌, ◌++◌, length, is_ok, if◌then◌else◌, nat_le, nat_lt};
+ghost use Rattle.std.specs.Prelude.{◌≡◌, ◌+◌, ◌≤◌, [], ◌∷◌, ◌++◌, length, take, drop, is_ok, if◌then◌else◌, nat_le, nat_lt};
 ghost use Rattle.buffer.specs.Bytes.{bytes_of};
 
 mod store;
 
 pub use store::Buffer;
+use store::Store;
 
 // Refused for want of room.
 #[derive(Clone, Copy, Debug, PartialEq)]
 pub struct Full;
+
+impl<const N: usize> Store<N> {
+    // Stores bytes from a place on.
+    fn put(&mut self, at: usize, bytes: &[u8])
+        requires { at + length bytes.now ≤ N }
+        ensures { self.new.bytes ≡ take at self.old.bytes ++ (bytes.now ++ drop (at + length bytes.now) self.old.bytes) }
+    {
+        let all = &mut self.bytes[..];
+        all[at..at + bytes.len()].copy_from_slice(bytes);
+    }
+}
 
 impl<const N: usize> Buffer<N> {
     pub fn new() -> Buffer<N>
         ensures { bytes_of result ≡ [] }
     {
         Buffer {
-            bytes: [0; N],
+            store: Store { bytes: [0; N] },
             fill: 0,
         }
     }
@@ -32,7 +44,7 @@ impl<const N: usize> Buffer<N> {
     pub fn as_slice(&self) -> &[u8]
         ensures { result.now ≡ bytes_of self.now }
     {
-        &self.bytes[..self.fill]
+        &self.store.bytes[..self.fill]
     }
 
     pub fn clear(&mut self)
@@ -49,7 +61,7 @@ impl<const N: usize> Buffer<N> {
         if self.fill >= N {
             return Err(Full);
         }
-        self.bytes[self.fill] = byte;
+        self.store.put(self.fill, &[byte]);
         self.fill += 1;
         Ok(())
     }
@@ -62,10 +74,8 @@ impl<const N: usize> Buffer<N> {
         if bytes.len() > N - self.fill {
             return Err(Full);
         }
-        let (from, to) = (self.fill, self.fill + bytes.len());
-        let all = &mut self.bytes[..];
-        all[from..to].copy_from_slice(bytes);
-        self.fill = to;
+        self.store.put(self.fill, bytes);
+        self.fill += bytes.len();
         Ok(())
     }
 

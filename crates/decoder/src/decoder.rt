@@ -6,6 +6,7 @@ ghost use Rattle.decoder.specs.Machine.{between, begun, advance, step, passes, f
 ghost use Rattle.decoder.specs.Code.{bytes_of, reading_of, state_of, chars_of, begun_turn, given_turn};
 
 use crate::character::{Character, Given, REPLACEMENT};
+use crate::width::width;
 
 // The bytes of an unfinished character, by how many they are of how many. A state and no closure or iterator, since a
 // stream may be cut after any byte and a decoder has no heap.
@@ -24,12 +25,12 @@ enum Pending {
 fn begin(byte: u8) -> (Pending, Option<Character>)
     ensures { begun_turn result ≡ begun (lead_of byte) byte }
 {
-    match byte {
-        0x00..=0x7F => (Pending::Nothing, Some(Character::One([byte]))),
-        0xC2..=0xDF => (Pending::OneOfTwo(byte), None),
-        0xE0..=0xEF => (Pending::OneOfThree(byte), None),
-        0xF0..=0xF4 => (Pending::OneOfFour(byte), None),
-        _ => (Pending::Nothing, Some(REPLACEMENT)),
+    match width(byte) {
+        0 => (Pending::Nothing, Some(REPLACEMENT)),
+        1 => (Pending::Nothing, Some(Character::One([byte]))),
+        2 => (Pending::OneOfTwo(byte), None),
+        3 => (Pending::OneOfThree(byte), None),
+        _ => (Pending::OneOfFour(byte), None),
     }
 }
 

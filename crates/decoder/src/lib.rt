@@ -6,6 +6,7 @@ mod character;
 mod decoder;
 mod laws;
 mod pieces;
+mod width;
 
 pub use character::{Character, Given, REPLACEMENT};
 pub use decoder::Decoder;
