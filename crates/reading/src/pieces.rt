@@ -1,4 +1,4 @@
-// Streams in pieces.
+// Streams in pieces. Reader and sink stay two: a sink is the caller's, and outlives the stream and its reader.
 ghost use Rattle.std.specs.Prelude.{◌≡◌, ℕ, List, ◌++◌};
 ghost use Rattle.std.specs.List.{flat_map};
 ghost use Rattle.lines.specs.Reader.{fault_of, reads};
