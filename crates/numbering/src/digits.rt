@@ -21,12 +21,17 @@ pub fn put_decimal(n: u32, out: &mut [u8]) -> Option<usize>
 }
 
 // The number from 1 to `most` that the bytes write in base ten without leading zeros, if there is one.
+#[tactic(auto, using(crate::proofs::Reading::too_long))]
 pub fn read_decimal(bytes: &[u8], most: u32) -> Option<u32>
     ensures { result ≡ numeral most bytes.now }
 {
     let [b'1'..=b'9', ..] = bytes else {
         return None;
     };
+    // a longer text is past every number of 32 bits, and need not be read
+    if bytes.len() > 10 {
+        return None;
+    }
     let number = u32::try_from(number(bytes)?).ok()?;
     (number <= most).then_some(number)
 }
