@@ -134,11 +134,14 @@ impl Decoder {
         ensures out { chars_of result ≡ (step (state_of self.old) byte).out }
     {
         let (pending, given) = self.pending.read(byte);
-        let is_first = !self.started;
         self.pending = pending;
-        self.started |= given != Given::Nothing;
+        // past the first character no mark is looked for, so what came is not looked at
+        if self.started {
+            return given;
+        }
+        self.started = given != Given::Nothing;
         match given {
-            Given::One(c) if is_first && c.is_mark() => Given::Nothing,
+            Given::One(c) if c.is_mark() => Given::Nothing,
             given => given,
         }
     }

@@ -77,13 +77,14 @@ impl Lines {
     fn character<S: Sink>(&mut self, c: Character, sink: &mut S) -> Result<bool, LineFault>
         ensures { handed self.new (S.Sink.state sink.new) result ≡ hand_char S.Sink.refusal S.Sink.after (text_of self.old) (S.Sink.state sink.old) (bytes_of c) }
     {
+        // two and three bytes by themselves, so that they are copied with a length that the compiler knows
         match c.as_bytes() {
-            [byte] => self.byte(*byte, sink),
-            bytes => {
-                self.append(bytes)?;
-                Ok(false)
-            }
+            [byte] => return self.byte(*byte, sink),
+            [a, b] => self.append(&[*a, *b])?,
+            [a, b, c] => self.append(&[*a, *b, *c])?,
+            bytes => self.append(bytes)?,
         }
+        Ok(false)
     }
 
     // The characters that a byte gave. Answers whether they kept an event.
