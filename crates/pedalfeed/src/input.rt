@@ -1,4 +1,6 @@
 // Standard input, read in large parts and handed on in pieces.
+ghost use Rattle.std.specs.Prelude.{◌≤◌, length, IfOk};
+
 use crate::output::Output;
 use lines::Reader;
 use reading::read_on;
@@ -19,15 +21,13 @@ pub(crate) fn read_input<S: Output>(
     reader: &mut Reader,
     sink: &mut S,
 ) -> anyhow::Result<()> {
-    let mut part = Vec::with_capacity(rt.alloc(), PART)?;
+    let size = piece.unwrap_or(LONGEST_PIECE).max(1);
+    let mut part = vec![in rt.alloc(); 0u8; PART / size * size]?;
     // Input need not end, so the turns are counted: without a count nothing says that the loop ends.
     for _ in 0..u64::MAX {
-        match piece {
-            Some(piece) => read_pieces(rt, piece, &mut part)?,
-            None => read_once(rt, &mut part)?,
-        }
-        hand_on(rt, &part, piece.unwrap_or(LONGEST_PIECE), reader, sink)?;
-        if part.is_empty() || reader.fault().is_some() {
+        let filled = next_part(rt, piece.is_some(), &mut part)?;
+        hand_on(rt, &part[..filled], size, reader, sink)?;
+        if filled == 0 || reader.fault().is_some() {
             break;
         }
     }
@@ -49,18 +49,30 @@ fn hand_on<S: Output>(
     Ok(())
 }
 
-// Takes the next part of the input as it comes: nothing only at the end of the input.
-fn read_once(rt: &HostRuntime, part: &mut Vec<u8>) -> io::Result<()> {
-    part.resize(PART, 0)?;
-    let got = rt.stdin().read(part.as_mut_slice())?;
-    part.truncate(got);
-    Ok(())
+// The next part of the input, whole or as it comes, and how long it is: 0 only at the end of the input. The memory stays as long as it
+// is, since making it so again for each read would write zeros over all that the last one did not fill.
+fn next_part(rt: &HostRuntime, whole: bool, part: &mut [u8]) -> io::Result<usize>
+    ensures { IfOk result (λ n. n ≤ length part.new) }
+{
+    if whole {
+        return fill(rt, part);
+    }
+    let got = rt.stdin().read(part)?;
+    Ok(got.min(part.len()))
 }
 
-// Takes the next part of the input in whole pieces: less only at the end of the input.
-fn read_pieces(rt: &HostRuntime, piece: usize, part: &mut Vec<u8>) -> io::Result<()> {
-    let whole = PART - PART % piece.max(1);
-    part.clear();
-    rt.stdin().take(whole as u64).read_to_end(part)?;
-    Ok(())
+// Fills the memory, and answers with how much: less than all of it only at the end of the input. `read_to_end` begins with small reads,
+// and what a packet has beyond these is lost.
+pub(crate) fn fill(rt: &HostRuntime, memory: &mut [u8]) -> io::Result<usize>
+    ensures { IfOk result (λ n. n ≤ length memory.new) }
+{
+    let mut filled = 0;
+    for _ in 0..u64::MAX {
+        let got = rt.stdin().read(&mut memory[filled..])?;
+        filled = filled.saturating_add(got).min(memory.len());
+        if got == 0 || filled == memory.len() {
+            break;
+        }
+    }
+    Ok(filled)
 }

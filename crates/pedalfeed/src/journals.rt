@@ -1,20 +1,20 @@
 // A journal on standard input.
+use crate::input::fill;
 use crate::output::Output;
 use events::Event;
 use journal::{JournalReader, Stored};
 use notation::Transcript;
 use sink::Sink;
 use std::alloc::{AllocError, Global};
-use std::io::Read;
 
 // One byte over the longest journal, so that a longer one shows.
 const MEMORY: usize = 65_537;
 
 // Prints the events of the journal on standard input, and then its end or why it cannot be read on.
 pub(crate) fn tell_journal(rt: &HostRuntime) -> anyhow::Result<()> {
-    let mut bytes = Vec::with_capacity(rt.alloc(), MEMORY)?;
-    rt.stdin().take(MEMORY as u64).read_to_end(&mut bytes)?;
-    match JournalReader::new(&bytes) {
+    let mut memory = vec![in rt.alloc(); 0u8; MEMORY]?;
+    let filled = fill(rt, &mut memory)?;
+    match JournalReader::new(&memory[..filled]) {
         Ok(mut reader) => tell_events(rt, &mut reader),
         Err(refusal) => {
             println!(rt; "refused {}", refusal.number())?;
