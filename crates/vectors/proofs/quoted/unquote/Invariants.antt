@@ -1,5 +1,5 @@
 use Rattle.std.proofs.Common.{length}
 use Rattle.vectors.proofs.quoted.unquote.Given as goal
 
-abbrev pub decreases-loop-rest : goal.decreases-loop-rest
-decreases-loop-rest l = length l.rest
+abbrev pub decreases-loop-byte : goal.decreases-loop-byte
+decreases-loop-byte l = length l.rest
