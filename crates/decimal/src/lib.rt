@@ -9,7 +9,7 @@ ghost use Rattle.decimal.specs.Decimal.{capped_digit, capped_number};
 pub fn capped(text: &[u8], most: u32) -> Option<u32>
     ensures { result ≡ capped_number most text.now }
 {
-    let number = within(text, u64::from(most))?;
+    let number = number(text)?;
     Some(number.min(u64::from(most)) as u32)
 }
 
@@ -17,33 +17,25 @@ pub fn capped(text: &[u8], most: u32) -> Option<u32>
 pub fn number(text: &[u8]) -> Option<u64>
     ensures { result ≡ capped_number 18446744073709551615 text.now }
 {
-    within(text, u64::MAX)
-}
-
-// The same, at most `most`: capped at each digit, since with a `most` that the compiler knows no digit can overflow.
-fn within(text: &[u8], most: u64) -> Option<u64>
-    ensures { result ≡ capped_number most text.now }
-{
     if text.is_empty() {
         return None;
     }
     let mut number = 0;
     for byte in text {
-        number = one_more(number, *byte, most)?;
+        number = one_more(number, *byte)?;
     }
     Some(number)
 }
 
 // One digit more behind a number.
-fn one_more(number: u64, byte: u8, most: u64) -> Option<u64>
-    ensures { result ≡ capped_digit most number byte }
+fn one_more(number: u64, byte: u8) -> Option<u64>
+    ensures { result ≡ capped_digit 18446744073709551615 number byte }
 {
     match byte {
         b'0'..=b'9' => Some(
             number
                 .saturating_mul(10)
-                .saturating_add(u64::from(byte - b'0'))
-                .min(most),
+                .saturating_add(u64::from(byte - b'0')),
         ),
         _ => None,
     }
